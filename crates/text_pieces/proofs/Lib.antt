@@ -1,0 +1,3 @@
+pub mod Cuts
+pub mod Spaced
+pub mod Values
