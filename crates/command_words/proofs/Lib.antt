@@ -1,0 +1,5 @@
+mod ArgumentLemmas
+mod FitsLemmas
+mod LineLemmas
+mod NumberLemmas
+mod PlacesLemmas

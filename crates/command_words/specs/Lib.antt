@@ -1,0 +1,4 @@
+pub mod Fault
+pub mod Number
+pub mod Line
+pub mod Judge

@@ -1,0 +1,20 @@
+-- Numbers among command words.
+use Rattle.std.specs.Prelude.{ℕ, Bool, ◌&&◌, List, length, nat_le, Option, Some, None}
+use Rattle.std.specs.Prelude.{if◌then◌else◌}
+use Rattle.std.specs.Char.{is_ascii_digit}
+use Rattle.std.specs.List.{list_all}
+use Rattle.std.specs.Str.Parse.{digits_value}
+
+-- the number is at least low and at most high
+abbrev pub is_between : ℕ → ℕ → ℕ → Bool
+is_between low high number = nat_le low number && nat_le number high
+
+-- the text is one to ten decimal digits
+abbrev pub is_numeral : List ℕ → Bool
+is_numeral text = is_between 1 10 (length text) && list_all is_ascii_digit text
+
+-- the number that one to ten decimal digits write, where it is between low and high
+abbrev pub number_in : ℕ → ℕ → List ℕ → Option ℕ
+number_in low high text =
+    if is_numeral text && is_between low high (digits_value 10 text)
+    then Some (digits_value 10 text) else None

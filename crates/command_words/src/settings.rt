@@ -1,0 +1,56 @@
+//! What accepted command words ask for.
+
+ghost use Rattle.std.specs.Prelude.{◌≡◌, ◌<◌, ◌==◌, ℕ, List, length, slice_index};
+
+use std::marker::Model;
+
+/// Places in the list of the statistics, counted from 0, in the order of the words that named them.
+#[derive(Debug, Drop)]
+pub struct Places {
+    chosen: Vec<usize>,
+}
+
+impl Model for Places {
+    ghost Value = { List ℕ };
+
+    ghost view = { λ p. p.chosen.items };
+}
+
+impl Places {
+    pub(crate) fn of(chosen: Vec<usize>) -> Places
+        ensures { result ≡ chosen.items }
+    {
+        Places { chosen }
+    }
+
+    /// How many statistics were chosen.
+    pub fn len(&self) -> usize
+        ensures { result ≡ length self.now }
+    {
+        self.chosen.len()
+    }
+
+    /// Whether no statistic was chosen.
+    pub fn is_empty(&self) -> bool
+        ensures { result ≡ (length self.now == 0) }
+    {
+        self.chosen.is_empty()
+    }
+
+    /// The place of the chosen statistic number `k`, counted from 0.
+    pub fn at(&self, k: usize) -> usize
+        requires { k < length self.now }
+        ensures { result ≡ slice_index self.now k }
+    {
+        self.chosen[k]
+    }
+}
+
+/// What accepted command words ask for. The number of growers is 1 to 16.
+#[derive(Debug, Drop)]
+pub enum Settings {
+    /// Grow the crystal of the job that is read, and report the chosen statistics.
+    Grow { growers: u32, chosen: Places },
+    /// Grow the crystal of the sample job of this number.
+    Sample { growers: u32, number: u32 },
+}

@@ -1,0 +1,3 @@
+pub mod Signs
+pub mod PassSteps
+pub mod Lifting

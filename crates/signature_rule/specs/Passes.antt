@@ -1,0 +1,23 @@
+-- Where an operator acts on a word.
+use Rattle.std.specs.Prelude.{ℕ, ◌<◌, ◌≡◌, List, length, slice_index, slice_set}
+use Rattle.std.specs.Option.{option_map}
+use Rattle.tensor_words.specs.Spaces.{SpaceType, base_action, factor_at}
+use Rattle.tensor_words.specs.Codes.{IsWord}
+use Rattle.tensor_words.specs.TensorRule.{action}
+
+-- the digit at this place, counted from 0, writes f signs phi and then e signs eps
+pub record AreSigns (s : SpaceType) (i : ℕ) (w : List ℕ) (place e f : ℕ) : Type 0 where
+  pub word : IsWord s w
+  pub below : place < length s.factors
+  pub eps : e ≡ (base_action s.cartan i (factor_at s place)).eps (slice_index w place)
+  pub phi : f ≡ (base_action s.cartan i (factor_at s place)).phi (slice_index w place)
+
+-- f_i acts on the word as on its digit at this place, counted from 0
+pub record IsLowerPlace (s : SpaceType) (i : ℕ) (w : List ℕ) (place : ℕ) : Type 0 where
+  pub below : place < length s.factors
+  pub acts : (action s i).lower w ≡ option_map (slice_set w place) ((base_action s.cartan i (factor_at s place)).lower (slice_index w place))
+
+-- e_i acts on the word as on its digit at this place, counted from 0
+pub record IsRaisePlace (s : SpaceType) (i : ℕ) (w : List ℕ) (place : ℕ) : Type 0 where
+  pub below : place < length s.factors
+  pub acts : (action s i).raise w ≡ option_map (slice_set w place) ((base_action s.cartan i (factor_at s place)).raise (slice_index w place))
