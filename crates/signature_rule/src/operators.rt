@@ -109,7 +109,7 @@ fn lower_place(space: &Space, word: &Word, i: u8) -> Option<u8>
 {
     let mut open = 0u32;
     let mut found = None;
-    'factors: for place in 0..space.count() {
+    'rightmost: for place in 0..space.count() {
         let signs = signs_at(space, word, i, place);
         if signs.phi > open {
             found = Some(place);
@@ -128,7 +128,7 @@ fn raise_place(space: &Space, word: &Word, i: u8) -> Option<u8>
     let mut open = 0u32;
     let mut found = None;
     let mut place = space.count();
-    'factors: while place > 0 {
+    'leftmost: while place > 0 {
         place -= 1;
         let signs = signs_at(space, word, i, place);
         if signs.eps > open {

@@ -3,24 +3,24 @@ use Rattle.signature_rule.proofs.PassSteps.{IsRaisePass, raise_here, raise_not_h
 use Rattle.signature_rule.proofs.operators.raise_place.Goals as goal
 use Rattle.signature_rule.proofs.operators.raise_place.Goals.{then-signs-open, else-signs-open}
 
-pub factors-preserved : goal.factors-preserved
-factors-preserved c =
-    let here : c.factors.place - 1 + 1 ≡ c.factors.place = omega arith in
-    let before : IsRaisePass c.args.space.now c.args.i c.args.word.now (c.factors.place - 1 + 1) c.factors.open c.factors.found = rw here c.factors.invariant.1 in
+pub leftmost-preserved : goal.leftmost-preserved
+leftmost-preserved c =
+    let here : c.leftmost.place - 1 + 1 ≡ c.leftmost.place = omega arith in
+    let before : IsRaisePass c.args.space.now c.args.i c.args.word.now (c.leftmost.place - 1 + 1) c.leftmost.open c.leftmost.found = rw here c.leftmost.invariant.1 in
     elim c.if-signs-open.branch [
       | then-signs-open w ↦ rw (c.saturating_sub.ensures, w.found-is) (
         omega arith,
-        raise_here c.args.space.now c.args.i c.args.word.now (c.factors.place - 1) c.factors.open c.signs_at-signs.result.eps c.signs_at-signs.result.phi c.factors.found
+        raise_here c.args.space.now c.args.i c.args.word.now (c.leftmost.place - 1) c.leftmost.open c.signs_at-signs.result.eps c.signs_at-signs.result.phi c.leftmost.found
             c.signs_at-signs.ensures.signs c.signs_at-signs.ensures.few.1 before w.if-signs-open.true,
       )
       | else-signs-open w ↦ rw (c.saturating_sub.ensures, w.found-is) (
         omega arith,
-        raise_not_here c.args.space.now c.args.i c.args.word.now (c.factors.place - 1) c.factors.open c.signs_at-signs.result.eps c.signs_at-signs.result.phi c.factors.found
+        raise_not_here c.args.space.now c.args.i c.args.word.now (c.leftmost.place - 1) c.leftmost.open c.signs_at-signs.result.eps c.signs_at-signs.result.phi c.leftmost.found
             c.signs_at-signs.ensures.signs c.signs_at-signs.ensures.few.1 before w.if-signs-open.false,
       )
     ]
 
 pub returns : goal.returns
 returns c =
-    let done : c.factors.place ≡ 0 = omega arith in
-    raise_end c.args.space.now c.args.i c.args.word.now c.factors.open c.factors.found (rw done at c.factors.invariant.1)
+    let done : c.leftmost.place ≡ 0 = omega arith in
+    raise_end c.args.space.now c.args.i c.args.word.now c.leftmost.open c.leftmost.found (rw done at c.leftmost.invariant.1)
