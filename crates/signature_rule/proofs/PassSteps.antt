@@ -1,17 +1,16 @@
 -- What the loops of the passes keep.
-use Rattle.std.proofs.Common.{◌≡◌, ◌∙◌, sym, ap, refl, subst, ℕ, ◌+◌, ◌-◌, ◌*◌, ◌≤◌, ◌<◌, nat_lt, if◌then◌else◌, Bool, true, false, List, [], ◌∷◌, map, length, drop, get_or, Option, Some, None, MatchOption, arith}
+use Rattle.std.proofs.Common.{◌≡◌, ◌∙◌, sym, ap, refl, ℕ, ◌+◌, ◌-◌, ◌*◌, ◌≤◌, ◌<◌, nat_lt, if◌then◌else◌, Bool, true, false, List, [], length, drop, Option, Some, None, MatchOption, arith}
 use Rattle.std.specs.Option.{option_map}
 use Rattle.std.proofs.lemmas.Bool.Decides.{nat_tests}
 use Rattle.std.proofs.lemmas.List.{drop_all}
 use Rattle.crystal_cartan.specs.Types.{HasIndex}
 use Rattle.crystal_cartan.specs.Crystals.{Action}
-use Rattle.tensor_words.specs.declared.spaces.Factor.{Factor}
-use Rattle.tensor_words.specs.Spaces.{SpaceType, IsSpace, base_action, factor_at}
+use Rattle.tensor_words.specs.Spaces.{SpaceType, IsSpace, base_action}
 use Rattle.tensor_words.specs.Codes.{IsWord}
-use Rattle.tensor_words.specs.TensorRule.{word_phi, word_eps, word_lower, word_raise, action}
+use Rattle.tensor_words.specs.TensorRule.{word_phi, word_lower, word_raise, action}
 use Rattle.signature_rule.specs.Passes.{AreSigns, IsLowerPlace, IsRaisePlace}
 use Rattle.tensor_words.proofs.KeptWords.{factors_of_space}
-use Rattle.signature_rule.proofs.Signs.{open_eps, eps_by_pass, last_phi, last_phi_found, lower_place, ActsAt, lower_at, first_eps, RaisesAt, raise_at, acts_from, first_eps_from, open_eps_step, last_phi_step, phi_step, first_eps_step}
+use Rattle.signature_rule.proofs.Signs.{open_eps, eps_by_pass, last_phi, last_phi_found, lower_place, lower_at, first_eps, RaisesAt, raise_at, acts_from, first_eps_from, open_eps_step, last_phi_step, phi_step, first_eps_step}
 use Rattle.tensor_words.proofs.SpaceWords.{length_word}
 use Rattle.tensor_words.proofs.WordWeights.{seminormal_word}
 

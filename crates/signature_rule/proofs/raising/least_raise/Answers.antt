@@ -1,4 +1,4 @@
-use Rattle.std.proofs.Common.{◌≡◌, ◌≤◌, ◌+◌, ap, sym, ◌∙◌, arith}
+use Rattle.std.proofs.Common.{◌≡◌, ◌+◌, ap, sym, ◌∙◌, arith}
 use Rattle.crystal_cartan.specs.Types.{CartanType, HasIndex}
 use Rattle.signature_rule.proofs.Lifting.{least_found, ended_more}
 use Rattle.signature_rule.proofs.raising.least_raise.Goals as goal

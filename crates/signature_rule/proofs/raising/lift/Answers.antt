@@ -1,6 +1,5 @@
-use Rattle.std.proofs.Common.{◌+◌, ◌≤◌, arith}
-use Rattle.signature_rule.specs.Lifts.{IsTop, IsLeastRaise}
-use Rattle.signature_rule.proofs.Lifting.{IsLifting, lifting_more, lifting_end, lifting_few, raise_falls}
+use Rattle.std.proofs.Common.{arith}
+use Rattle.signature_rule.proofs.Lifting.{lifting_more, lifting_end, lifting_few, raise_falls}
 use Rattle.signature_rule.proofs.raising.lift.Goals as goal
 
 pub overflow_add-raises : goal.overflow_add-raises
