@@ -1,0 +1,4 @@
+pub mod Graphs
+pub mod Tables
+pub mod Texts
+pub mod Growth

@@ -1,0 +1,36 @@
+-- How a finished graph keeps its arrows: one table for lowering and one for raising, with a row for each vertex in
+-- ascending rank, and in it an entry for each index.
+use Rattle.std.specs.Prelude.{ℕ, ◌+◌, ◌-◌, ◌*◌, ◌<◌, ◌≡◌, Bool, true, false, List, map, length, slice_index, Option, Some, None}
+use Rattle.std.specs.List.{range_with_len}
+use Rattle.crystal_cartan.specs.Types.{HasIndex}
+use Rattle.crystal_cartan.specs.declared.types.Arrow.{Arrow}
+use Rattle.canonical_graph.specs.Graphs.{FinishedType, IsFinished, target_rank, arrow_count}
+
+-- an entry is the rank to which the operator leads, or 2^32 - 1 where it gives zero
+abbrev pub entry : Option ℕ → ℕ
+entry None = 4294967295
+entry (Some rank) = rank
+
+-- the arrow f_i or e_i
+abbrev pub arrow_to : Bool → ℕ → Arrow
+arrow_to down i = record { down = down; index = i }
+
+abbrev pub entry_at : FinishedType → ℕ → Bool → ℕ → ℕ
+entry_at f rank down i = entry (target_rank f rank (arrow_to down i))
+
+-- the entries of the first n indices at a vertex
+abbrev pub row : FinishedType → ℕ → Bool → ℕ → List ℕ
+row f rank down n = map (λ i. entry_at f rank down i) (range_with_len 1 n)
+
+-- the table of one direction has the rows of the first n vertices
+pub record IsTable (f : FinishedType) (down : Bool) (n : ℕ) (entries : List ℕ) : Type 0 where
+  pub size : length entries ≡ n * f.space.cartan.rank
+  pub rows : (rank i : ℕ) → rank < n → HasIndex f.space.cartan i
+      → slice_index entries (rank * f.space.cartan.rank + (i - 1)) ≡ entry_at f rank down i
+
+-- what is kept of a finished graph beside its space and its codes
+pub record IsKept (f : FinishedType) (low high : List ℕ) (arrows : ℕ) : Type 0 where
+  pub finished : IsFinished f
+  pub lowered : IsTable f true (length f.codes) low
+  pub raised : IsTable f false (length f.codes) high
+  pub counted : arrows ≡ arrow_count f

@@ -1,0 +1,137 @@
+//! Finished graphs.
+ghost use Rattle.std.specs.Prelude.{◌≡◌, ℕ, ◌^◌, ◌<◌, All, length, IfOk, IfSome};
+ghost use Rattle.std.specs.List.Sorted.{IsStrictlyIncreasing};
+ghost use Rattle.tensor_words.specs.Spaces.{IsSpace, size};
+ghost use Rattle.tensor_words.specs.Codes.{IsWord};
+ghost use Rattle.tensor_words.specs.Operators.{IsArrow};
+ghost use Rattle.canonical_graph.specs.Graphs.{IsFinished, IsClosedList, finished_graph, code_at, rank_in, target_rank, arrow_count};
+ghost use Rattle.canonical_graph.specs.Texts.{vertex_word};
+
+use crate::tables::{NO_TARGET, Targets, rank_among, targets_of, word_with};
+use crystal_cartan::Arrow;
+use std::alloc::{AllocError, Global};
+use std::marker::Model;
+use tensor_words::{Codes, Space, Word};
+
+/// There was not enough memory.
+#[derive(Clone, Copy, Debug, Drop, PartialEq, Eq)]
+pub struct NoMemory;
+
+/// A finished graph: words of a space that are closed under all operators, in ascending order of their codes.
+#[derive(Debug, Drop)]
+pub struct Finished {
+    space: Space,
+    codes: Vec<u64>,
+    targets: Targets,
+}
+
+impl Model for Finished {
+    ghost use Rattle.canonical_graph.specs.Graphs.{FinishedType, finished_graph};
+    ghost use Rattle.canonical_graph.specs.Tables.{IsKept};
+
+    ghost Value = { FinishedType };
+
+    ghost view = { λ f. finished_graph f.space f.codes.items };
+
+    ghost invariant = { λ f. IsKept (finished_graph f.space f.codes.items) f.targets.lowered.items f.targets.raised.items f.targets.arrows };
+}
+
+impl Finished {
+    /// The graph of these codes.
+    pub fn of(alloc: Global, space: Space, codes: Codes) -> Result<Finished, NoMemory>
+        requires ascending { IsStrictlyIncreasing codes }
+        requires below { All (λ c. c < size space) codes }
+        requires few { length codes < 2 ^ 32 }
+        requires closed { IsClosedList space codes }
+        ensures { IfOk result (λ f. f ≡ finished_graph space codes) }
+    {
+        let _space = space.cartan();
+        let Ok(list) = codes.as_slice().to_vec(alloc) else {
+            return Err(NoMemory);
+        };
+        match finish(alloc, space, list) {
+            Ok(graph) => Ok(graph),
+            Err(_) => Err(NoMemory),
+        }
+    }
+
+    /// The number of vertices.
+    pub fn len(&self) -> u32
+        ensures len { result ≡ length self.now.codes }
+        ensures finished { IsFinished self.now }
+    {
+        self.codes.len() as u32
+    }
+
+    /// The number of arrows: of the vertices and indices at which the lowering operator does not give zero.
+    pub fn arrows(&self) -> u64
+        ensures arrows { result ≡ arrow_count self.now }
+        ensures finished { IsFinished self.now }
+    {
+        self.targets.arrows
+    }
+
+    /// The space of the words.
+    pub fn space(&self) -> &Space
+        ensures space { result.now ≡ self.now.space }
+        ensures finished { IsFinished self.now }
+    {
+        &self.space
+    }
+
+    /// The code of a vertex.
+    pub fn code_at(&self, rank: u32) -> u64
+        requires { rank < length self.now.codes }
+        ensures code { result ≡ code_at self.now rank }
+        ensures below { result < size self.now.space }
+        ensures finished { IsFinished self.now }
+    {
+        self.codes[rank as usize]
+    }
+
+    /// The rank of the vertex with this code, `None` where there is none.
+    pub fn rank_of(&self, code: u64) -> Option<u32>
+        ensures rank { result ≡ rank_in self.now.codes code }
+        ensures below { IfSome result (λ rank. rank < length self.now.codes) }
+        ensures finished { IsFinished self.now }
+    {
+        rank_among(self.codes.as_slice(), code)
+    }
+
+    /// The rank to which the operator of an arrow leads from a vertex, `None` where it gives zero.
+    pub fn arrow_at(&self, rank: u32, arrow: Arrow) -> Option<u32>
+        requires rank { rank < length self.now.codes }
+        requires arrow { IsArrow self.now.space arrow }
+        ensures target { result ≡ target_rank self.now rank arrow }
+        ensures below { IfSome result (λ target. target < length self.now.codes) }
+        ensures finished { IsFinished self.now }
+    {
+        let indices = self.space.cartan().rank() as usize;
+        let place = rank as usize * indices + (arrow.index as usize - 1);
+        let target = self.targets.entry(arrow.down, place);
+        if target == NO_TARGET { None } else { Some(target) }
+    }
+
+    /// The word of a vertex.
+    pub fn word_at(&self, rank: u32) -> Word
+        requires { rank < length self.now.codes }
+        ensures word { result ≡ vertex_word self.now rank }
+        ensures is_word { IsWord self.now.space result }
+        ensures finished { IsFinished self.now }
+    {
+        word_with(&self.space, self.code_at(rank))
+    }
+}
+
+/// The graph of these codes.
+pub(crate) fn finish(alloc: Global, space: Space, codes: Vec<u64>) -> Result<Finished, AllocError>
+    requires { IsFinished (finished_graph space codes.items) }
+    ensures { IfOk result (λ f. f ≡ finished_graph space codes.items) }
+{
+    let targets = targets_of(alloc, &space, codes.as_slice())?;
+    Ok(Finished {
+        space,
+        codes,
+        targets,
+    })
+}

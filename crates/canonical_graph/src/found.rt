@@ -1,0 +1,60 @@
+//! The codes found so far by a growth.
+ghost use Rattle.std.specs.Prelude.{◌≡◌, ◌<◌, ◌≤◌, ℕ, [], length, slice_index, OnOk, nat_eq};
+ghost use Rattle.std.specs.List.{IsDistinct};
+ghost use Rattle.canonical_graph.specs.Growth.{AddsCode};
+
+use indexmap::IndexSet;
+use std::alloc::{AllocError, Global};
+use std::marker::Model;
+
+/// Different codes in the order in which they were found.
+#[derive(Drop)]
+pub(crate) struct Found {
+    codes: IndexSet<u64>,
+}
+
+impl Model for Found {
+    ghost use Rattle.std.specs.Prelude.{List, ℕ, nat_eq};
+    ghost use Rattle.std.specs.List.{IsDistinct};
+
+    ghost Value = { List ℕ };
+
+    ghost view = { λ f. f.codes.keys };
+
+    ghost invariant = { λ f. IsDistinct nat_eq f.codes.keys };
+}
+
+impl Found {
+    pub(crate) fn new(alloc: Global) -> Found
+        ensures { result ≡ [] }
+    {
+        Found {
+            codes: IndexSet::new(alloc),
+        }
+    }
+
+    pub(crate) fn len(&self) -> usize
+        ensures len { result ≡ length self.now }
+        ensures distinct { IsDistinct nat_eq self.now }
+    {
+        self.codes.len()
+    }
+
+    pub(crate) fn at(&self, k: usize) -> u64
+        requires { k < length self.now }
+        ensures { result ≡ slice_index self.now k }
+    {
+        match self.codes.get_index(k) {
+            Some(code) => *code,
+            None => unreachable!(),
+        }
+    }
+
+    /// Adds the code where it is not there yet.
+    pub(crate) fn add(&mut self, code: u64) -> Result<(), AllocError>
+        ensures { OnOk result (AddsCode self.old code self.new) }
+    {
+        self.codes.insert(code)?;
+        Ok(())
+    }
+}
