@@ -1,5 +1,5 @@
 -- What adding a code to those found makes of them.
-use Rattle.std.proofs.Common.{◌≡◌, ℕ, zero, suc, ◌<◌, Bool, true, false, List, [], ◌∷◌, ◌++◌, length, get_or, nat_eq, refl, sym, ◌∙◌, ap, subst, if◌then◌else◌, arith, eqb-true}
+use Rattle.std.proofs.Common.{◌≡◌, ℕ, zero, suc, Bool, true, false, List, [], ◌∷◌, ◌++◌, nat_eq, refl, sym, ◌∙◌, ap, subst, if◌then◌else◌, arith, eqb-true}
 use Rattle.std.specs.List.{Contains, list_any}
 use Rattle.std.proofs.lemmas.List.{append-nil}
 use Rattle.indexmap.specs.IndexSet.{insert_key}
@@ -18,6 +18,7 @@ adds_code ks new k is = by (list_any (nat_eq k) ks) refl
   where
     there : Contains new k
     there = subst (λ xs. Contains xs k) (sym is) (Contains-insert_key nat_eq eqb-true ks k)
+
     by : (b : Bool) → list_any (nat_eq k) ks ≡ b → AddsCode ks k new
     by true old = record {
       more = [];

@@ -1,5 +1,5 @@
 -- What following the operators adds to those found.
-use Rattle.std.proofs.Common.{◌≡◌, ◌∙◌, refl, sym, ap, subst, ℕ, ◌+◌, ◌<◌, ◌≤◌, ◌⊎◌, inl, inr, Bool, true, false, List, [], ◌∷◌, ◌++◌, length, get_or, Option, None, Some, Contains, append_assoc, arith}
+use Rattle.std.proofs.Common.{◌≡◌, ◌∙◌, refl, sym, ap, subst, ℕ, ◌+◌, ◌<◌, ◌⊎◌, inl, inr, Bool, true, false, List, [], ◌++◌, length, get_or, Option, None, Some, Contains, append_assoc, arith}
 use Rattle.std.proofs.lemmas.Bool.{cases_lt}
 use Rattle.std.proofs.lemmas.List.{append-nil}
 use Rattle.std.proofs.lemmas.List.Elements.{Contains-append_left, Contains-append_cases, Contains-get_or}
@@ -8,7 +8,7 @@ use Rattle.crystal_cartan.specs.declared.types.Arrow.{Arrow}
 use Rattle.tensor_words.specs.Spaces.{SpaceType, size}
 use Rattle.std.specs.Option.{option_map}
 use Rattle.tensor_words.specs.Codes.{code_of, word_of}
-use Rattle.tensor_words.specs.Operators.{IsArrow, acted, op}
+use Rattle.tensor_words.specs.Operators.{acted, op}
 use Rattle.canonical_graph.specs.Tables.{arrow_to}
 use Rattle.canonical_graph.specs.Growth.{AddsCode, Follows, IsFollowed, IsNeighbour, Expands, HasRoots}
 use Rattle.canonical_graph.proofs.Adding.{none_in}

@@ -1,5 +1,5 @@
 -- A growth from the roots to its end.
-use Rattle.std.proofs.Common.{◌≡◌, ◌∙◌, refl, sym, ap, subst, ℕ, ◌+◌, ◌<◌, ◌≤◌, inl, inr, nat_eq, eqb-true, List, [], ◌∷◌, ◌++◌, length, take, get_or, Option, None, Some, true, false, All, Contains, length-append, arith}
+use Rattle.std.proofs.Common.{◌≡◌, ◌∙◌, refl, sym, ap, subst, ℕ, ◌+◌, ◌<◌, ◌≤◌, inl, inr, nat_eq, eqb-true, List, [], ◌∷◌, ◌++◌, length, take, get_or, None, Some, true, false, All, Contains, length-append, arith}
 use Rattle.std.specs.List.{IsDistinct}
 use Rattle.std.specs.List.Sorted.{IsPermutation, IsSorted}
 use Rattle.std.specs.Option.{option_and_then}
@@ -19,8 +19,8 @@ use Rattle.crystal_cartan.specs.declared.types.Arrow.{Arrow}
 use Rattle.tensor_words.specs.Spaces.{SpaceType, size}
 use Rattle.tensor_words.specs.Operators.{IsArrow, op}
 use Rattle.tensor_words.specs.Worlds.{WorldType, IsWorld}
-use Rattle.tensor_words.specs.Reach.{IsPath, walk, IsReachedFrom, IsReached, IsComponentList, Outnumber}
-use Rattle.canonical_graph.specs.Graphs.{IsClosedList, IsFinished, finished_graph}
+use Rattle.tensor_words.specs.Reach.{IsPath, walk, IsReached, Outnumber}
+use Rattle.canonical_graph.specs.Graphs.{IsClosedList}
 use Rattle.canonical_graph.specs.Growth.{IsFollowed, IsNeighbour, Expands, HasRoots, IsFrontier, IsSortedFrom, IsGrown}
 use Rattle.canonical_graph.proofs.Expanding.{still_in, old_or_more}
 
@@ -159,8 +159,8 @@ all_reached w n c found fr all r =
 pub sorted_from : (found xs ys : List ℕ) → xs ≡ found → IsDistinct nat_eq xs → IsPermutation xs ys → IsSorted nat_cmp ys → IsSortedFrom found ys
 sorted_from found xs ys copied distinct moved sorted = record {
   ascending =
-    IsStrictlyIncreasing-from_distinct ys (IsNonDecreasingBy-from_sort (λ x. x) ys sorted)
-    (IsDistinct-IsPermutation nat_eq flips xs ys moved distinct);
+      IsStrictlyIncreasing-from_distinct ys (IsNonDecreasingBy-from_sort (λ x. x) ys sorted)
+      (IsDistinct-IsPermutation nat_eq flips xs ys moved distinct);
   few = omega (arith, length_permutation xs ys moved, ap (λ (zs : List ℕ). length zs) copied);
   from = λ c h. subst (λ zs. Contains zs c) copied (Contains-permutation ys xs c (IsPermutation-sym xs ys moved) h);
   all = λ c h. Contains-permutation xs ys c moved (subst (λ zs. Contains zs c) (sym copied) h);

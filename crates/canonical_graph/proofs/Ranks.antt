@@ -1,5 +1,5 @@
 -- Ranks of codes in an ascending list, and the ranks to which operators lead.
-use Rattle.std.proofs.Common.{◌≡◌, ◌∙◌, refl, sym, ap, ℕ, ◌<◌, ◌≤◌, ◌==◌, inl, inr, nat_lt, true, false, List, length, get_or, Option, None, Some, Ok, Err, position, Contains, arith}
+use Rattle.std.proofs.Common.{◌≡◌, ◌∙◌, refl, sym, ℕ, ◌<◌, ◌≤◌, ◌==◌, inl, inr, nat_lt, true, false, List, length, get_or, Option, None, Some, Ok, Err, Contains, arith}
 use Rattle.std.specs.List.{position_or_len}
 use Rattle.std.specs.List.Sorted.{IsStrictlyIncreasing, IsBinarySearchResult}
 use Rattle.std.specs.Option.{option_and_then}

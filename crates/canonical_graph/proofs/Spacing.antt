@@ -52,11 +52,11 @@ printed_next : (f : FinishedType) (rank n : ℕ) (old out new : List ℕ) (first
     → next ≡ (first && not (is_some (target_rank f rank (lowering (suc n))))) → IsPrinted f rank (suc n) old new next
 printed_next f rank n old out new first next p text none_yet = record {
   text =
-    text ∙ ap (λ b. spaced_onto out b (suc n) (target_rank f rank (lowering (suc n)))) p.none_yet
-    ∙ text_more old out (arrow_texts f rank n) (suc n) (target_rank f rank (lowering (suc n))) p.text;
+      text ∙ ap (λ b. spaced_onto out b (suc n) (target_rank f rank (lowering (suc n)))) p.none_yet
+      ∙ text_more old out (arrow_texts f rank n) (suc n) (target_rank f rank (lowering (suc n))) p.text;
   none_yet =
-    none_yet ∙ ap (λ b. b && not (is_some (target_rank f rank (lowering (suc n))))) p.none_yet
-    ∙ none_more (arrow_texts f rank n) (suc n) (target_rank f rank (lowering (suc n)));
+      none_yet ∙ ap (λ b. b && not (is_some (target_rank f rank (lowering (suc n))))) p.none_yet
+      ∙ none_more (arrow_texts f rank n) (suc n) (target_rank f rank (lowering (suc n)));
 }
 
 pub print_more : (f : FinishedType) (rank n : ℕ) (old out new : List ℕ) (first next : Bool) → IsPrinted f rank n old out first

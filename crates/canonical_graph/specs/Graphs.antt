@@ -1,5 +1,5 @@
 -- Finished graphs: a closed ascending list of codes, its vertices, with the operators as arrows between their ranks.
-use Rattle.std.specs.Prelude.{ℕ, ◌+◌, ◌-◌, ◌*◌, ◌^◌, ◌<◌, ◌≡◌, ◌==◌, Bool, true, false, if◌then◌else◌, List, length, slice_index, Option, Some, None, All, Contains, position, is_some, sum_by, count_by, option_and_then}
+use Rattle.std.specs.Prelude.{ℕ, ◌^◌, ◌<◌, ◌≡◌, ◌==◌, true, List, length, slice_index, Option, Some, All, Contains, position, is_some, sum_by, count_by, option_and_then}
 use Rattle.std.specs.List.{range_with_len}
 use Rattle.std.specs.List.Sorted.{IsStrictlyIncreasing}
 use Rattle.crystal_cartan.specs.declared.types.Arrow.{Arrow}

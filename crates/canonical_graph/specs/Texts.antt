@@ -1,5 +1,5 @@
 -- How a vertex is printed.
-use Rattle.std.specs.Prelude.{ℕ, zero, suc, ◌+◌, Bool, true, false, List, [], ◌∷◌, ◌++◌, Option, Some, None, decimal}
+use Rattle.std.specs.Prelude.{ℕ, zero, suc, Bool, true, false, List, [], ◌∷◌, ◌++◌, Option, Some, None, decimal}
 use Rattle.tensor_words.specs.Spaces.{word_weight}
 use Rattle.tensor_words.specs.Codes.{word_of}
 use Rattle.text_pieces.specs.Pieces.{spaced}

@@ -109,7 +109,11 @@ impl Finished {
         let indices = self.space.cartan().rank() as usize;
         let place = rank as usize * indices + (arrow.index as usize - 1);
         let target = self.targets.entry(arrow.down, place);
-        if target == NO_TARGET { None } else { Some(target) }
+        if target == NO_TARGET {
+            None
+        } else {
+            Some(target)
+        }
     }
 
     /// The word of a vertex.

@@ -9,6 +9,8 @@ mod found;
 mod growth;
 mod lines;
 mod tables;
+#[cfg(test)]
+mod tests;
 
 pub use finished::{Finished, NoMemory};
 pub use growth::{PlainFault, grow_plain};

@@ -1,4 +1,4 @@
-use Rattle.std.proofs.Common.{◌≡◌, ◌∙◌, ap, sym, Some, OnOk, Result, Ok, Err}
+use Rattle.std.proofs.Common.{◌∙◌, ap, sym, Some, OnOk, Result, Ok, Err}
 use Rattle.std.specs.Option.{option_map}
 use Rattle.tensor_words.specs.Codes.{code_of}
 use Rattle.canonical_graph.proofs.Expanding.{follows_some}

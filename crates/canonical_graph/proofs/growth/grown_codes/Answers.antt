@@ -1,5 +1,5 @@
-use Rattle.std.proofs.Common.{◌≡◌, ◌<◌, ◌≤◌, subst, ap, length, arith}
-use Rattle.tensor_words.specs.Spaces.{SpaceType, size}
+use Rattle.std.proofs.Common.{subst, arith}
+use Rattle.tensor_words.specs.Spaces.{SpaceType}
 use Rattle.canonical_graph.specs.Growth.{Expands}
 use Rattle.canonical_graph.proofs.Growing.{first_frontier, next_frontier, code_below, overfull, grown}
 use Rattle.canonical_graph.proofs.growth.grown_codes.Goals as goal

@@ -1,4 +1,4 @@
-use Rattle.std.proofs.Common.{◌≡◌, ◌+◌, ◌-◌}
+use Rattle.std.proofs.Common.{◌+◌, ◌-◌}
 use Rattle.canonical_graph.specs.Growth.{IsFrontier}
 use Rattle.canonical_graph.proofs.growth.grown_codes.Given as goal
 

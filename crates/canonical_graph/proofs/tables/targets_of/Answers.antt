@@ -1,6 +1,6 @@
-use Rattle.std.proofs.Common.{◌≡◌, ◌+◌, true, false, arith}
+use Rattle.std.proofs.Common.{true, false, arith}
 use Rattle.canonical_graph.specs.Graphs.{finished_graph}
-use Rattle.canonical_graph.proofs.Rows.{no_rows, more_rows, more_arrows, all_kept}
+use Rattle.canonical_graph.proofs.Rows.{more_rows, more_arrows, all_kept}
 use Rattle.canonical_graph.proofs.tables.targets_of.Goals as goal
 
 pub ranks-preserved : goal.ranks-preserved

@@ -1,4 +1,3 @@
-use Rattle.std.proofs.Common.{◌≡◌}
 use Rattle.canonical_graph.proofs.Spacing.{line_is}
 use Rattle.canonical_graph.proofs.finished.Finished.graph_line.Goals as goal
 

@@ -1,12 +1,12 @@
-use Rattle.std.proofs.Common.{◌≡◌, ◌∙◌, ap, arith}
-use Rattle.canonical_graph.proofs.Spacing.{print_begins, print_more, print_ends}
+use Rattle.std.proofs.Common.{arith}
+use Rattle.canonical_graph.proofs.Spacing.{print_more, print_ends}
 use Rattle.canonical_graph.proofs.finished.Finished.print_arrows.Goals as goal
 
 pub indices-preserved : goal.indices-preserved
 indices-preserved c = record {
   printed =
-    print_more c.args.self.now c.args.rank c.indices.place c.args.out.now c.indices.out c.print_arrow-first.new.out c.indices.first c.print_arrow-first.result
-    c.indices.invariant.printed c.print_arrow-first.ensures.text c.print_arrow-first.ensures.first;
+      print_more c.args.self.now c.args.rank c.indices.place c.args.out.now c.indices.out c.print_arrow-first.new.out c.indices.first c.print_arrow-first.result
+      c.indices.invariant.printed c.print_arrow-first.ensures.text c.print_arrow-first.ensures.first;
   fits = omega (arith, c.print_arrow-first.ensures.fits, c.indices.invariant.fits);
   last = c.indices.invariant.last;
   small = c.indices.invariant.small;

@@ -1,4 +1,4 @@
-use Rattle.std.proofs.Common.{◌≡◌, ◌∙◌, sym, ap, ℕ, ◌+◌, ◌≤◌, Bool, true, false, is_some, if◌then◌else◌, arith}
+use Rattle.std.proofs.Common.{◌+◌, true, false, is_some, arith}
 use Rattle.canonical_graph.specs.Graphs.{finished_graph, target_rank, lowering}
 use Rattle.canonical_graph.proofs.Rows.{more_entries, more_counted, one_at_most}
 use Rattle.canonical_graph.proofs.tables.Targets.push_row.Goals as goal
