@@ -9,13 +9,10 @@ ghost use Rattle.canonical_graph.specs.Texts.{vertex_word};
 
 use crate::tables::{NO_TARGET, Targets, rank_among, targets_of, word_with};
 use crystal_cartan::Arrow;
+use crystal_streams::NoMemory;
 use std::alloc::{AllocError, Global};
 use std::marker::Model;
 use tensor_words::{Codes, Space, Word};
-
-/// There was not enough memory.
-#[derive(Clone, Copy, Debug, Drop, PartialEq, Eq)]
-pub struct NoMemory;
 
 /// A finished graph: words of a space that are closed under all operators, in ascending order of their codes.
 #[derive(Debug, Drop)]

@@ -12,5 +12,5 @@ mod tables;
 #[cfg(test)]
 mod tests;
 
-pub use finished::{Finished, NoMemory};
+pub use finished::Finished;
 pub use growth::{PlainFault, grow_plain};

@@ -1,9 +1,9 @@
 //! Worked graphs, and their printed lines.
 ghost use Rattle.std.specs.Prelude.{◌<◌, ◌^◌, length};
 
-use crate::{Finished, NoMemory, PlainFault, grow_plain};
+use crate::{Finished, PlainFault, grow_plain};
 use crystal_cartan::{Arrow, Cartan, Kind};
-use crystal_streams::Line;
+use crystal_streams::{Line, NoMemory};
 use std::alloc::{AllocError, Global};
 use tensor_words::{Codes, Factor, Space, World};
 
