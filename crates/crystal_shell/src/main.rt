@@ -1,0 +1,36 @@
+//! The workbench for crystal graphs as a program: command words and a job in, the answer out.
+#![tactic(auto)]
+
+mod answer;
+#[cfg(test)]
+mod tests;
+mod texts;
+mod top;
+
+use crystal_streams::{InputAdapter, OutputAdapter};
+use std::alloc::AllocError;
+use std::io::ErrorKind;
+use std::process::ExitCode;
+use std::{env, io};
+
+/// The status where there is no memory.
+const NO_MEMORY: u8 = 6;
+
+/// Runs the program on standard input and standard output, and ends with the status of the run.
+fn main(rt: HostRuntime) -> ExitCode {
+    let Ok(words) = command_words(&rt) else {
+        return ExitCode::from(NO_MEMORY);
+    };
+    let mut source = InputAdapter::new(rt.stdin());
+    let mut sink = OutputAdapter::new(rt.stdout());
+    ExitCode::from(top::run(rt.alloc(), words.as_slice(), &mut source, &mut sink))
+}
+
+/// The command words without the program's name; none where one of them is no text.
+fn command_words(rt: &HostRuntime) -> Result<Vec<String>, AllocError> {
+    match env::args(rt) {
+        Ok(args) => args.skip(1).collect(rt.alloc()),
+        Err(fault) if fault.kind() == ErrorKind::OutOfMemory => Err(AllocError),
+        Err(_) => Ok(Vec::new(rt.alloc())),
+    }
+}

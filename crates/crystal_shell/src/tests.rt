@@ -1,0 +1,261 @@
+//! The program from bytes to bytes, on streams in memory. The whole texts are the documented ones, the sizes follow
+//! from Weyl's dimension formula, and the numbers of arrows from the characters of those components.
+
+use crate::top::run;
+use crystal_streams::{MemorySink, MemorySource};
+use std::alloc::{AllocError, Global};
+use std::test::Fail;
+
+/// The room of a sink that is never spent.
+const ROOM: usize = 4_000_000;
+
+fn strings(alloc: Global, words: &[&str]) -> Result<Vec<String>, AllocError> {
+    let mut all = Vec::new(alloc);
+    for word in words {
+        all.push(String::from_str(alloc, word)?)?;
+    }
+    Ok(all)
+}
+
+/// The status and the output of a run over these words and this input.
+fn ran(alloc: Global, words: &[&str], input: &[u8]) -> Result<(u8, Vec<u8>), Fail> {
+    let words = strings(alloc, words)?;
+    let mut source = MemorySource::new(input.to_vec(alloc)?, Vec::new(alloc), 4096);
+    let mut sink = MemorySink::new(alloc, ROOM, Vec::new(alloc), 4096)?;
+    let status = run(alloc, words.as_slice(), &mut source, &mut sink);
+    Ok((status, sink.bytes().to_vec(alloc)?))
+}
+
+/// A job with this text behind the header.
+fn job(alloc: Global, text: &str) -> Result<Vec<u8>, AllocError> {
+    let mut bytes = b"crystal-job 1\n".to_vec(alloc)?;
+    bytes.extend_from_slice(text.as_bytes())?;
+    Ok(bytes)
+}
+
+/// The status and the output of `grow` with so many growers.
+fn grown(alloc: Global, growers: &str, text: &str) -> Result<(u8, Vec<u8>), Fail> {
+    ran(alloc, &["grow", growers], job(alloc, text)?.as_slice())
+}
+
+const A2: &str = "crystal A 2\ngraph 8 8\n0 | 2 1 1 | 2 1 0 | 1:1 2:3\n1 | 2 1 2 | 1 2 0 | 2:2\n\
+2 | 2 1 3 | 1 1 1 | 2:5\n3 | 3 1 1 | 2 0 1 | 1:4\n4 | 3 1 2 | 1 1 1 | 1:6\n5 | 3 1 3 | 1 0 2 | 1:7\n\
+6 | 3 2 2 | 0 2 1 | 2:7\n7 | 3 2 3 | 0 1 2 | -\nend\n";
+
+const LONGEST_JOB: &str =
+    "type A 1\nspace v v v v v v v v v v v v v v v v v v v v v v v v v v v v v v v v v v v v v v v v\n\
+start 2 1 2 1 2 1 2 1 2 1 2 1 2 1 2 1 2 1 2 1 2 1 2 1 2 1 2 1 2 1 2 1 2 1 2 1 2 1 2 1\n";
+
+const LONGEST: &str = "crystal A 1\ngraph 1 0\n0 | 2 1 2 1 2 1 2 1 2 1 2 1 2 1 2 1 2 1 2 1 \
+2 1 2 1 2 1 2 1 2 1 2 1 2 1 2 1 2 1 2 1 | 20 20 | -\nend\n";
+
+const B2: &str = "crystal B 2\ngraph 5 4\n0 | 1 | 1 0 | 1:1\n1 | 2 | 0 1 | 2:2\n2 | 0 | 0 0 | 2:3\n\
+3 | -2 | 0 -1 | 1:4\n4 | -1 | -1 0 | -\nend\n";
+
+const B2_SPIN: &str = "crystal B 2\ngraph 4 3\n0 | ++ | 1/2 1/2 | 2:1\n1 | +- | 1/2 -1/2 | 1:2\n\
+2 | -+ | -1/2 1/2 | 2:3\n3 | -- | -1/2 -1/2 | -\nend\n";
+
+const D4: &str = "crystal D 4\ngraph 8 8\n0 | 1 | 1 0 0 0 | 1:1\n1 | 2 | 0 1 0 0 | 2:2\n\
+2 | 3 | 0 0 1 0 | 3:3 4:4\n3 | 4 | 0 0 0 1 | 4:5\n4 | -4 | 0 0 0 -1 | 3:5\n5 | -3 | 0 0 -1 0 | 2:6\n\
+6 | -2 | 0 -1 0 0 | 1:7\n7 | -1 | -1 0 0 0 | -\nend\n";
+
+const C2: &str =
+    "crystal C 2\ngraph 5 4\n0 | 2 1 | 1 1 | 2:1\n1 | -2 1 | 1 -1 | 1:2\n2 | -2 2 | 0 0 | 1:3\n\
+3 | -1 2 | -1 1 | 2:4\n4 | -1 -2 | -1 -1 | -\nend\n";
+
+const C2_VECTOR: &str =
+    "crystal C 2\ngraph 4 3\n0 | 1 | 1 0 | 1:1\n1 | 2 | 0 1 | 2:2\n2 | -2 | 0 -1 | 1:3\n\
+3 | -1 | -1 0 | -\nend\n";
+
+#[test]
+fn whole_texts(rt: HostRuntime) -> Result<(), Fail> {
+    for (growers, text, status, answer) in [
+        ("2", "type A 2\nshape 2 1\ncells 8\n", 0, A2),
+        ("1", "type A 2\nspace v v v\nstart 2 1 1\n", 0, A2),
+        (
+            "16",
+            "type A 2\nshape 2 1\ncells 7\n",
+            3,
+            "crystal A 2\nfull\nend\n",
+        ),
+        (
+            "1",
+            "type A 2\nshape 2 1\ncells 7\n",
+            3,
+            "crystal A 2\nfull\nend\n",
+        ),
+        (
+            "2",
+            "type A 1\nspace v v\nstart 2 1\n",
+            0,
+            "crystal A 1\ngraph 1 0\n0 | 2 1 | 1 1 | -\nend\n",
+        ),
+        ("2", LONGEST_JOB, 0, LONGEST),
+        ("1", "type B 2\nspace v\nstart 2\n", 0, B2),
+        ("1", "type B 2\nspace s\nstart ++\n", 0, B2_SPIN),
+        ("1", "type D 4\nspace v\nstart 1\n", 0, D4),
+        ("1", "type C 2\nspace v\nstart -1\n", 0, C2_VECTOR),
+        ("3", "type C 2\nshape 1 1\n", 0, C2),
+    ] {
+        let (ended, output) = grown(rt.alloc(), growers, text)?;
+        assert_eq!(rt; ended, status);
+        assert_eq!(rt; output.as_slice(), answer.as_bytes());
+    }
+    Ok(())
+}
+
+#[test]
+fn sizes(rt: HostRuntime) -> Result<(), Fail> {
+    for (text, line) in [
+        ("type A 2\nshape 2 1\n", "\ngraph 8 8\n"),
+        ("type A 4\nshape 4 3 2 1\n", "\ngraph 1024 2304\n"),
+        (
+            "type B 3\nspace s v v v\nstart +++ 2 1 1\n",
+            "\ngraph 512 928\n",
+        ),
+        ("type C 3\nshape 3 2 1\n", "\ngraph 512 "),
+        ("type D 4\nshape 3 2 1\n", "\ngraph 4096 9664\n"),
+        ("type C 2\nshape 1\n", "\ngraph 4 "),
+        ("type C 2\nshape 1 1\n", "\ngraph 5 4\n"),
+        ("type C 2\nshape 2\n", "\ngraph 10 10\n"),
+        ("type B 2\nshape 1\n", "\ngraph 5 "),
+        ("type B 2\nspace s\nstart ++\n", "\ngraph 4 "),
+        ("type B 2\nshape 1 1\n", "\ngraph 10 "),
+        ("type D 4\nshape 1\n", "\ngraph 8 "),
+        ("type D 4\nspace s+\nstart ++++\n", "\ngraph 8 "),
+        ("type D 4\nspace s-\nstart +++-\n", "\ngraph 8 "),
+        ("type A 2\nshape 1\nstart 1\nstart 2\n", "\ngraph 3 2\n"),
+        (
+            "type C 4\nspace v v v v v v v v v v v v v v v v v v v v v\n\
+             start -1 1 -1 1 -1 1 -1 1 -1 1 -1 1 -1 1 -1 1 -1 1 -1 1 1\n",
+            "\ngraph 8 7\n",
+        ),
+    ] {
+        let (ended, output) = grown(rt.alloc(), "1", text)?;
+        assert_eq!(rt; ended, 0);
+        assert!(rt;
+            output
+                .get(11..)
+                .is_some_and(|rest| rest.starts_with(line.as_bytes()))
+        );
+    }
+    Ok(())
+}
+
+#[test]
+fn refused_words(rt: HostRuntime) -> Result<(), Fail> {
+    for (words, fault) in [
+        ([].as_slice(), "refused words 2\n"),
+        (["-h"].as_slice(), "refused words 1\n"),
+        (["paint", "2"].as_slice(), "refused words 3\n"),
+        (["grow", "0"].as_slice(), "refused words 4\n"),
+        (["grow", "17"].as_slice(), "refused words 4\n"),
+        (["grow", "2", "lengths"].as_slice(), "refused words 5\n"),
+        (["sample", "2"].as_slice(), "refused words 7\n"),
+        (["sample", "1", "2"].as_slice(), "refused words 8\n"),
+    ] {
+        let (ended, output) = ran(rt.alloc(), words, b"")?;
+        assert_eq!(rt; ended, 1);
+        assert_eq!(rt; output.as_slice(), fault.as_bytes());
+    }
+    Ok(())
+}
+
+#[test]
+fn refused_jobs(rt: HostRuntime) -> Result<(), Fail> {
+    for (text, fault) in [
+        ("type A 9\n", "refused job line 2 fault 6\n"),
+        ("type A 2\nshape 1 2\n", "refused job line 3 fault 7\n"),
+        (
+            "type D 4\nspace v\nstart 0\n",
+            "refused job line 4 fault 9\n",
+        ),
+        (
+            "type A 2\nshape 1\nsession\nf 0 1\n",
+            "refused job line 5 fault 10\n",
+        ),
+        (
+            "type A 2\nshape 1\ncells 0\n",
+            "refused job line 4 fault 11\n",
+        ),
+        (
+            "type C 4\nspace v v v v v v v v v v v v v v v v v v v v v v\n",
+            "refused job line 3 fault 8\n",
+        ),
+        (
+            "type A 1\nspace v v v v v v v v v v v v v v v v v v v v v v v v v v v v v v v v v v v v v v v v v\n",
+            "refused job line 3 fault 8\n",
+        ),
+        ("type A 2", "refused job line 2 fault 1\n"),
+        ("", "refused job line 2 fault 12\n"),
+        (
+            "type A 2\nshape 1\nsession\nsession\nsession\nsession\nsession\nsession\nsession\nsession\nsession\n\
+             session\nsession\nsession\nsession\nsession\nsession\nsession\nsession\n",
+            "refused job line 20 fault 13\n",
+        ),
+        ("type A 2\nsession\n", "refused job line 3 fault 4\n"),
+        ("type A 2\n", "refused job line 3 fault 12\n"),
+        (
+            "type A 2\nshape 1\nsession\nfind 1\n",
+            "refused job line 0 fault 15\n",
+        ),
+        (
+            "type A 2\nshape 1\nreflect 1\n",
+            "refused job line 0 fault 15\n",
+        ),
+    ] {
+        let (ended, output) = grown(rt.alloc(), "2", text)?;
+        assert_eq!(rt; ended, 2);
+        assert_eq!(rt; output.as_slice(), fault.as_bytes());
+    }
+    let (ended, output) = ran(rt.alloc(), &["grow", "2"], b"")?;
+    assert_eq!(rt; ended, 2);
+    assert_eq!(rt;
+        output.as_slice(),
+        b"refused job line 1 fault 2\n".as_slice()
+    );
+    Ok(())
+}
+
+/// The status and the output of the first job, filled up to so many bytes by a comment.
+fn filled(alloc: Global, size: usize) -> Result<(u8, Vec<u8>), Fail> {
+    let mut input = job(alloc, "type A 2\nshape 2 1\ncells 8\n#")?;
+    input.resize(size.saturating_sub(1), b'x')?;
+    input.push(b'\n')?;
+    ran(alloc, &["grow", "2"], input.as_slice())
+}
+
+#[test]
+fn long_jobs(rt: HostRuntime) -> Result<(), Fail> {
+    for (size, status, answer) in [
+        (1_048_576, 0, A2),
+        (1_048_577, 2, "refused job line 0 fault 14\n"),
+    ] {
+        let (ended, output) = filled(rt.alloc(), size)?;
+        assert_eq!(rt; ended, status);
+        assert_eq!(rt; output.as_slice(), answer.as_bytes());
+    }
+    Ok(())
+}
+
+/// The status and the output of the first job where the reads and writes of these numbers fail.
+fn faulty(alloc: Global, reads: &[u64], writes: &[u64]) -> Result<(u8, Vec<u8>), Fail> {
+    let words = strings(alloc, &["grow", "2"])?;
+    let input = job(alloc, "type A 2\nshape 2 1\ncells 8\n")?;
+    let mut source = MemorySource::new(input, reads.to_vec(alloc)?, 4096);
+    let mut sink = MemorySink::new(alloc, ROOM, writes.to_vec(alloc)?, 16)?;
+    let status = run(alloc, words.as_slice(), &mut source, &mut sink);
+    Ok((status, sink.bytes().to_vec(alloc)?))
+}
+
+#[test]
+fn stream_faults(rt: HostRuntime) -> Result<(), Fail> {
+    let (ended, output) = faulty(rt.alloc(), &[], &[3])?;
+    assert_eq!(rt; ended, 5);
+    assert!(rt; output.len() <= 32);
+    assert!(rt; A2.as_bytes().starts_with(output.as_slice()));
+    let (ended, output) = faulty(rt.alloc(), &[1], &[])?;
+    assert_eq!(rt; ended, 4);
+    assert_eq!(rt; output.len(), 0);
+    Ok(())
+}

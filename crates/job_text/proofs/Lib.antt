@@ -1,0 +1,7 @@
+pub mod Ascending
+pub mod JobRoots
+pub mod LineSteps
+pub mod OneMore
+pub mod ShapeTypes
+pub mod Worked
+pub mod WorldsMade

@@ -1,0 +1,17 @@
+-- A draft, seen from its fields.
+use Rattle.job_text.specs.declared.drafts.Draft.TheInside.{Inside}
+use Rattle.job_text.specs.Drafts.{Drafted, IsDraft}
+
+abbrev pub draft_seen : Inside → Drafted
+draft_seen d = record {
+  part = d.part;
+  space = d.space;
+  top = d.top;
+  starts = d.starts.items;
+  cells = d.cells;
+  scripts = d.scripts.items;
+  asks = d.asks.items;
+}
+
+abbrev pub IsKept : Inside → Type 0
+IsKept d = IsDraft (draft_seen d)

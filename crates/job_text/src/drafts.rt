@@ -1,0 +1,249 @@
+//! What is known of a job while its lines are read.
+ghost use Rattle.std.specs.Prelude.{◌≡◌, ◌<◌, ◌≤◌, ◌==◌, ◌||◌, not, true, IfOk, IfSome, OnOk, Option, Some, None, Ok, is_some, length};
+ghost use Rattle.crystal_cartan.specs.Types.{HasIndex};
+ghost use Rattle.tensor_words.specs.Spaces.{IsSpace, size};
+ghost use Rattle.tableau_reading.specs.Shapes.{IsShape};
+ghost use Rattle.text_pieces.specs.Pieces.{words};
+ghost use Rattle.job_text.specs.declared.commands.Ask.TheVariants as ask;
+ghost use Rattle.job_text.specs.Jobs.{IsCommand, IsAsk, IsJob};
+ghost use Rattle.job_text.specs.Drafts.{Drafted, fresh, last_script, with_start, with_cells, with_session, with_command, with_ask, job_of};
+ghost use Rattle.job_text.specs.Outcomes.{Gives};
+ghost use Rattle.job_text.specs.Judge as spec;
+
+use crate::commands::{Ask, Asks, Command, Indices, Script, Scripts};
+use crate::faults::Stop;
+use crate::jobs::Job;
+use crate::keys::Part;
+use crate::{arguments, roots};
+use crystal_cartan::Cartan;
+use std::alloc::{AllocError, Global};
+use std::marker::Model;
+use tensor_words::{Codes, Space};
+
+/// Behind the line `type`: the Cartan type.
+#[derive(Debug, Drop)]
+pub(crate) struct TypedHead {
+    pub cartan: Cartan,
+}
+
+/// From the line `shape` or `space` on.
+#[derive(Debug, Drop)]
+pub(crate) struct Draft {
+    part: Part,
+    space: Space,
+    top: Option<u64>,
+    starts: Vec<u64>,
+    cells: Option<u32>,
+    scripts: Vec<Script>,
+    asks: Vec<Ask>,
+}
+
+impl Model for Draft {
+    ghost use Rattle.job_text.specs.Drafts.{Drafted};
+
+    ghost Value = { Drafted };
+
+    ghost use Rattle.job_text.specs.DraftFields.{draft_seen, IsKept};
+
+    ghost view = { draft_seen };
+
+    ghost invariant = { IsKept };
+}
+
+/// How far the reading has come.
+#[derive(Debug, Drop)]
+pub(crate) enum State {
+    /// Before the header.
+    Unread,
+    /// Behind the header.
+    Open,
+    /// Behind the line `type`.
+    Typed(TypedHead),
+    /// Behind the line `shape` or `space`.
+    Begun(Draft),
+}
+
+impl Draft {
+    /// The draft behind the line `shape`, with the code of the top word, or `space`.
+    pub fn fresh(alloc: Global, space: Space, top: Option<u64>) -> Draft
+        requires top { IfSome top (λ c. c < size space) }
+        ensures { result ≡ fresh space top }
+    {
+        let _space = space.cartan();
+        Draft {
+            part: Part::Head,
+            space,
+            top,
+            starts: Vec::new(alloc),
+            cells: None,
+            scripts: Vec::new(alloc),
+            asks: Vec::new(alloc),
+        }
+    }
+
+    pub fn part(&self) -> Part
+        ensures { result ≡ self.now.part }
+    {
+        self.part
+    }
+
+    pub fn cartan(&self) -> Cartan
+        ensures { result ≡ self.now.space.cartan }
+    {
+        self.space.cartan()
+    }
+
+    /// Whether the number of cells was given.
+    pub fn has_cells(&self) -> bool
+        ensures { result ≡ is_some self.now.cells }
+    {
+        self.cells.is_some()
+    }
+
+    /// The number of `start` lines.
+    pub fn start_count(&self) -> usize
+        ensures { result ≡ length self.now.starts }
+    {
+        self.starts.len()
+    }
+
+    /// The number of sessions.
+    pub fn session_count(&self) -> usize
+        ensures { result ≡ length self.now.scripts }
+    {
+        self.scripts.len()
+    }
+
+    /// The number of commands of the last session.
+    pub fn command_count(&self) -> usize
+        ensures { result ≡ length (last_script self.now) }
+    {
+        match self.scripts.last() {
+            Some(script) => script.len(),
+            None => 0,
+        }
+    }
+
+    /// The number of asks.
+    pub fn ask_count(&self) -> usize
+        ensures { result ≡ length self.now.asks }
+    {
+        self.asks.len()
+    }
+
+    /// The code of the word that a text is.
+    pub fn coded(&self, text: &[u8]) -> Result<u64, Stop>
+        ensures given { Gives result (spec.coded self.now.space (words text.now)) }
+        ensures word { IfOk result (λ c. c < size self.now.space) }
+    {
+        arguments::coded(&self.space, text)
+    }
+
+    /// The index that a word is.
+    pub fn indexed(&self, word: &[u8]) -> Result<u8, Stop>
+        ensures given { Gives result (spec.indexed self.now.space word.now) }
+        ensures index { IfOk result (HasIndex self.now.space.cartan) }
+    {
+        arguments::indexed(&self.space, word)
+    }
+
+    /// The indices that the words of a text are.
+    pub fn indices(&self, alloc: Global, text: &[u8]) -> Result<Indices, Stop>
+        requires some { 1 ≤ length (words text.now) }
+        requires few { length (words text.now) ≤ 64 }
+        ensures given { Gives result (spec.all_indexed self.now.space (words text.now)) }
+        ensures indices { IfOk result (λ list. IsAsk self.now.space (ask.Demazure list)) }
+    {
+        arguments::indices(alloc, &self.space, text)
+    }
+
+    /// The draft with one more start.
+    pub fn with_start(self, code: u64) -> Result<Draft, AllocError>
+        requires word { code < size self.space }
+        requires room { length self.starts < 256 }
+        ensures { IfOk result (λ d. d ≡ with_start self code) }
+    {
+        let mut draft = self;
+        draft.starts.push(code)?;
+        Ok(draft)
+    }
+
+    /// The draft with this number of cells.
+    pub fn with_cells(self, cells: u32) -> Draft
+        requires { (1 ≤ cells) × (cells ≤ 1048576) }
+        ensures { result ≡ with_cells self cells }
+    {
+        let mut draft = self;
+        draft.cells = Some(cells);
+        draft
+    }
+
+    /// The draft with one more session.
+    pub fn with_session(self, alloc: Global) -> Result<Draft, AllocError>
+        requires room { length self.scripts < 16 }
+        ensures { IfOk result (λ d. d ≡ with_session self) }
+    {
+        let mut draft = self;
+        draft.part = Part::Session;
+        draft.scripts.push(Script::of(Vec::new(alloc)))?;
+        Ok(draft)
+    }
+
+    /// The draft with one more command of the last session.
+    pub fn with_command(self, command: Command) -> Result<Draft, AllocError>
+        requires command { IsCommand self.space command }
+        requires room { length (last_script self) < 4096 }
+        ensures { IfOk result (λ d. d ≡ with_command self command) }
+    {
+        let mut draft = self;
+        let count = draft.scripts.len();
+        if count > 0 {
+            draft.scripts[count - 1].push(command)?;
+        }
+        Ok(draft)
+    }
+
+    /// The draft with one more ask.
+    pub fn with_ask(self, ask: Ask) -> Result<Draft, AllocError>
+        requires ask { IsAsk self.space ask }
+        requires room { length self.asks < 8 }
+        ensures { IfOk result (λ d. d ≡ with_ask self ask) }
+    {
+        let mut draft = self;
+        draft.part = Part::Asks;
+        draft.asks.push(ask)?;
+        Ok(draft)
+    }
+
+    /// Whether there is a start.
+    pub fn has_start(&self) -> bool
+        ensures { result ≡ (is_some self.now.top || not (length self.now.starts == 0)) }
+    {
+        self.top.is_some() || !self.starts.is_empty()
+    }
+
+    /// The job of a draft with a start, whose lines are all read.
+    pub fn job(self, alloc: Global) -> Result<Job, AllocError>
+        requires { (is_some self.top || not (length self.starts == 0)) ≡ true }
+        ensures same { IfOk result (λ j. j ≡ job_of self) }
+        ensures job { IfOk result IsJob }
+    {
+        let Draft {
+            part: _,
+            space,
+            top,
+            starts,
+            cells,
+            scripts,
+            asks,
+        } = self;
+        let starts = roots::all_starts(top, starts)?;
+        let roots = roots::roots_of(alloc, starts.as_slice(), scripts.as_slice())?;
+        Ok(Job {
+            world: roots::world_of(space, cells.unwrap_or(65536), roots),
+            starts: Codes::of(starts),
+            scripts: Scripts::of(scripts),
+            asks: Asks::of(asks),
+        })
+    }
+}

@@ -1,0 +1,97 @@
+//! Jobs, and the reader of their text.
+ghost use Rattle.std.specs.Prelude.{◌≡◌, ◌≤◌, IfOk, length};
+ghost use Rattle.text_pieces.specs.Pieces.{words};
+ghost use Rattle.job_text.specs.Jobs.{IsJob};
+ghost use Rattle.job_text.specs.Outcomes.{Gives, Tells};
+ghost use Rattle.job_text.specs.Judge as spec;
+
+use crate::commands::{Asks, Scripts};
+use crate::drafts::State;
+use crate::faults::{JobFault, JobWhy, Stop};
+use crate::lines::line_made;
+use std::alloc::Global;
+use tensor_words::{Codes, World};
+use text_pieces::cut;
+
+/// A job that was read.
+#[derive(Debug, Drop)]
+pub struct Job {
+    /// The space, the number of cells, and the roots: the starts and what the `add` commands put in.
+    pub world: World,
+    /// The codes of the starts, in the order of the text. The first is the one that a shape gives, where there is one.
+    pub starts: Codes,
+    /// The scripts of the sessions.
+    pub scripts: Scripts,
+    /// The asks at the end.
+    pub asks: Asks,
+}
+
+/// Reads a job of at most 1,048,576 bytes, or tells the first line with a fault and its first fault. A job that
+/// lacks its type, its space or a start has the fault `Missing` at the line after the last.
+#[tactic(auto, unfolding(crate::specs::Judge::judge))]
+pub fn read_job(alloc: Global, bytes: &[u8]) -> Result<Job, JobFault>
+    requires { length bytes.now ≤ 1048576 }
+    ensures told { Tells result (spec.judge bytes.now) }
+    ensures job { IfOk result IsJob }
+{
+    let mut state = State::Unread;
+    let mut rest = bytes;
+    let mut line = 1;
+    'lines: loop {
+        let (text, behind) = cut(rest, b'\n');
+        let Some(next) = behind else {
+            return tail_at(alloc, line, text, state);
+        };
+        match line_at(alloc, line, text, state) {
+            Ok(after) => state = after,
+            Err(fault) => return Err(fault),
+        }
+        rest = next;
+        line += 1;
+    }
+}
+
+/// What a line with this number makes of a state.
+fn line_at(alloc: Global, line: u32, text: &[u8], state: State) -> Result<State, JobFault>
+    ensures { Tells result (spec.at_line line (spec.line_made text.now state)) }
+{
+    match line_made(alloc, text, state) {
+        Ok(after) => Ok(after),
+        Err(stop) => Err(stop.at_line(line)),
+    }
+}
+
+/// What stands behind the last end of a line, with this number, makes of a state.
+fn tail_at(alloc: Global, line: u32, text: &[u8], state: State) -> Result<Job, JobFault>
+    ensures told { Tells result (spec.at_line line (spec.tail_judged text.now state)) }
+    ensures job { IfOk result IsJob }
+{
+    if !text.is_empty() {
+        return Err(JobFault::At {
+            line,
+            why: JobWhy::BadByte,
+        });
+    }
+    match ended(alloc, state) {
+        Ok(job) => Ok(job),
+        Err(stop) => Err(stop.at_line(line)),
+    }
+}
+
+/// What a state gives behind the last line.
+#[tactic(auto, unfolding(crate::specs::Judge::ended))]
+fn ended(alloc: Global, state: State) -> Result<Job, Stop>
+    ensures given { Gives result (spec.ended state) }
+    ensures job { IfOk result IsJob }
+{
+    match state {
+        State::Unread => Err(Stop::Why(JobWhy::BadHeader)),
+        State::Open | State::Typed(_) => Err(Stop::Why(JobWhy::Missing)),
+        State::Begun(draft) => {
+            if !draft.has_start() {
+                return Err(Stop::Why(JobWhy::Missing));
+            }
+            Ok(draft.job(alloc)?)
+        }
+    }
+}

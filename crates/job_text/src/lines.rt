@@ -1,0 +1,316 @@
+//! What the lines of a job make of what is known.
+ghost use Rattle.std.specs.Prelude.{◌≡◌, ◌==◌, ◌||◌, ◌<◌, ◌≤◌, true, Some, Ok, codes, bytes_eq, length, slice_index_or};
+ghost use Rattle.tensor_words.specs.Codes.{code_of};
+ghost use Rattle.tableau_reading.specs.Shapes.{shape_space};
+ghost use Rattle.tableau_reading.specs.Readings.{top_word};
+ghost use Rattle.text_pieces.specs.Pieces.{words};
+ghost use Rattle.job_text.specs.declared.commands.Command.TheVariants as command;
+ghost use Rattle.job_text.specs.declared.keys.Key.TheVariants.{Demazure};
+ghost use Rattle.job_text.specs.declared.drafts.State.TheVariants.{Unread};
+ghost use Rattle.job_text.specs.Rules.{HasIndices};
+ghost use Rattle.job_text.specs.Drafts.{fresh, last_script};
+ghost use Rattle.job_text.specs.Outcomes.{Gives};
+ghost use Rattle.job_text.specs.Judge as spec;
+
+use crate::arguments;
+use crate::commands::{Ask, Command};
+use crate::drafts::{Draft, State, TypedHead};
+use crate::faults::{JobWhy, Stop};
+use crate::keys::{Key, Part, Rule, is_between, is_count, rule_of};
+use crystal_cartan::{Arrow, Cartan};
+use std::alloc::Global;
+use tableau_reading::Shape;
+use text_pieces::{are_printed, behind, count_words, first, first_word};
+
+/// The most `start` lines, sessions, commands of a session, asks, and indices of a `demazure` ask.
+const MOST_STARTS: usize = 256;
+
+const MOST_SESSIONS: usize = 16;
+
+const MOST_COMMANDS: usize = 4096;
+
+const MOST_ASKS: usize = 8;
+
+const MOST_INDICES: usize = 64;
+
+/// The most cells.
+const MOST_CELLS: u32 = 1_048_576;
+
+/// What a line makes of a state.
+#[tactic(auto, unfolding(crate::specs::Judge::line_made))]
+pub(crate) fn line_made(alloc: Global, line: &[u8], state: State) -> Result<State, Stop>
+    ensures { Gives result (spec.line_made line.now state) }
+{
+    if !are_printed(line) {
+        return Err(Stop::Why(JobWhy::BadByte));
+    }
+    match state {
+        State::Unread => header_read(line),
+        state => worded(alloc, line, state),
+    }
+}
+
+/// The first line is the header, and no other.
+fn header_read(line: &[u8]) -> Result<State, Stop>
+    ensures { Gives result (spec.begun line.now Unread) }
+{
+    if line == b"crystal-job 1".as_slice() {
+        Ok(State::Open)
+    } else {
+        Err(Stop::Why(JobWhy::BadHeader))
+    }
+}
+
+/// What a line behind the header makes of a state.
+#[tactic(auto, unfolding(crate::specs::Judge::worded))]
+fn worded(alloc: Global, line: &[u8], state: State) -> Result<State, Stop>
+    ensures { Gives result (spec.worded (words line.now) state) }
+{
+    let Some((word, rest)) = first_word(line) else {
+        return Ok(state);
+    };
+    if is_comment(word) {
+        return Ok(state);
+    }
+    let Some(rule) = rule_of(word) else {
+        return Err(Stop::Why(JobWhy::UnknownLine));
+    };
+    ruled(alloc, rest, rule, state)
+}
+
+/// Whether a line that begins with this word is a comment.
+fn is_comment(word: &[u8]) -> bool
+    ensures { result ≡ (slice_index_or word.now 0 0 == 35) }
+{
+    matches!(word, [b'#', ..])
+}
+
+/// What the line of a key word makes of a state, its faults in their order.
+#[tactic(auto, unfolding(crate::specs::Judge::ruled))]
+fn ruled(alloc: Global, text: &[u8], rule: Rule, state: State) -> Result<State, Stop>
+    requires { HasIndices rule }
+    ensures { Gives result (spec.ruled rule (words text.now) state) }
+{
+    if !(is_count(rule.count, count_words(text)) && is_formed(rule.key, text)) {
+        return Err(Stop::Why(JobWhy::UnknownLine));
+    }
+    if !is_placed(rule, &state) {
+        return Err(Stop::Why(JobWhy::Misplaced));
+    }
+    if !has_room(rule.key, text, &state) {
+        return Err(Stop::Why(JobWhy::TooMany));
+    }
+    made(alloc, rule.key, text, state)
+}
+
+/// Behind `look` stands f or e.
+fn is_formed(key: Key, text: &[u8]) -> bool
+    ensures { result ≡ spec.is_formed key (words text.now) }
+{
+    match key {
+        Key::Look => is_direction(first(text)),
+        _ => true,
+    }
+}
+
+fn is_direction(word: &[u8]) -> bool
+    ensures { result ≡ (bytes_eq word.now (codes "f") || bytes_eq word.now (codes "e")) }
+{
+    is_down(word) || word == b"e".as_slice()
+}
+
+fn is_down(word: &[u8]) -> bool
+    ensures { result ≡ bytes_eq word.now (codes "f") }
+{
+    word == b"f".as_slice()
+}
+
+/// The part of a state.
+fn part_of(state: &State) -> Part
+    ensures { result ≡ spec.part_of state.now }
+{
+    match state {
+        State::Unread | State::Open => Part::Opening,
+        State::Typed(_) => Part::Typed,
+        State::Begun(draft) => draft.part(),
+    }
+}
+
+/// Whether the line is a second line `cells`.
+fn is_second_cells(key: Key, state: &State) -> bool
+    ensures { result ≡ spec.is_second_cells key state.now }
+{
+    match state {
+        State::Begun(draft) => key == Key::Cells && draft.has_cells(),
+        _ => false,
+    }
+}
+
+/// Whether the line may stand here.
+fn is_placed(rule: Rule, state: &State) -> bool
+    ensures { result ≡ spec.is_placed rule state.now }
+{
+    is_between(rule.first, rule.last, part_of(state)) && !is_second_cells(rule.key, state)
+}
+
+/// Whether a draft has room for the line.
+fn draft_has_room(key: Key, text: &[u8], draft: &Draft) -> bool
+    ensures { result ≡ spec.draft_has_room key (words text.now) draft.now }
+{
+    match key {
+        Key::Start => draft.start_count() < MOST_STARTS,
+        Key::Cells => true,
+        Key::Session => draft.session_count() < MOST_SESSIONS,
+        Key::Demazure => draft.ask_count() < MOST_ASKS && count_words(text) <= MOST_INDICES,
+        Key::Tops | Key::Reflect => draft.ask_count() < MOST_ASKS,
+        _ => draft.command_count() < MOST_COMMANDS,
+    }
+}
+
+/// Whether a state has room for the line.
+#[tactic(auto, unfolding(crate::specs::Judge::has_room))]
+fn has_room(key: Key, text: &[u8], state: &State) -> bool
+    ensures { result ≡ spec.has_room key (words text.now) state.now }
+{
+    match state {
+        State::Begun(draft) => draft_has_room(key, text, draft),
+        _ => true,
+    }
+}
+
+/// What the line of a key word makes of a state.
+#[tactic(auto, unfolding(crate::specs::Judge::made, crate::specs::Judge::has_room))]
+fn made(alloc: Global, key: Key, text: &[u8], state: State) -> Result<State, Stop>
+    requires room { spec.has_room key (words text.now) state ≡ true }
+    requires indices { key ≡ Demazure → 1 ≤ length (words text.now) }
+    ensures { Gives result (spec.made key (words text.now) state) }
+{
+    match state {
+        State::Unread => Err(Stop::Why(JobWhy::Misplaced)),
+        State::Open => {
+            let cartan = arguments::typed(text)?;
+            Ok(State::Typed(TypedHead { cartan }))
+        }
+        State::Typed(head) => {
+            let draft = placed(alloc, key, text, head.cartan)?;
+            Ok(State::Begun(draft))
+        }
+        State::Begun(draft) => {
+            let draft = drafted(alloc, key, text, draft)?;
+            Ok(State::Begun(draft))
+        }
+    }
+}
+
+/// What the line `shape` or `space` makes of a type.
+#[tactic(auto, unfolding(crate::specs::Judge::placed))]
+fn placed(alloc: Global, key: Key, text: &[u8], cartan: Cartan) -> Result<Draft, Stop>
+    ensures { Gives result (spec.placed key (words text.now) cartan) }
+{
+    match key {
+        Key::Shape => {
+            let shape = arguments::shaped(alloc, text, cartan)?;
+            Ok(shape_taken(alloc, shape))
+        }
+        Key::Space => {
+            let space = arguments::spaced(alloc, text, cartan)?;
+            Ok(Draft::fresh(alloc, space, None))
+        }
+        _ => Err(Stop::Why(JobWhy::Misplaced)),
+    }
+}
+
+/// The draft behind a shape: its space, and its top word as the first start.
+fn shape_taken(alloc: Global, shape: Shape) -> Draft
+    ensures { result ≡ fresh (shape_space shape) (Some (code_of (shape_space shape) (top_word shape))) }
+{
+    let space = shape.space();
+    let top = space.code_of(&shape.top());
+    Draft::fresh(alloc, space, Some(top))
+}
+
+/// What the line of a key word makes of a draft.
+#[tactic(auto, unfolding(crate::specs::Judge::drafted))]
+fn drafted(alloc: Global, key: Key, text: &[u8], draft: Draft) -> Result<Draft, Stop>
+    requires room { spec.draft_has_room key (words text.now) draft ≡ true }
+    requires indices { key ≡ Demazure → 1 ≤ length (words text.now) }
+    ensures { Gives result (spec.drafted key (words text.now) draft) }
+{
+    match key {
+        Key::Typing | Key::Shape | Key::Space => Err(Stop::Why(JobWhy::Misplaced)),
+        Key::Start => {
+            let code = draft.coded(text)?;
+            Ok(draft.with_start(code)?)
+        }
+        Key::Cells => cells_given(text, draft),
+        Key::Session => Ok(draft.with_session(alloc)?),
+        Key::Add => {
+            let code = draft.coded(text)?;
+            Ok(draft.with_command(Command::Add(code))?)
+        }
+        Key::Find => {
+            let code = draft.coded(text)?;
+            Ok(draft.with_command(Command::Find(code))?)
+        }
+        Key::Wt => {
+            let code = draft.coded(text)?;
+            Ok(draft.with_command(Command::Wt(code))?)
+        }
+        Key::Lower => moved(true, text, draft),
+        Key::Raise => moved(false, text, draft),
+        Key::Eps => {
+            let index = draft.indexed(first(text))?;
+            let code = draft.coded(behind(text))?;
+            Ok(draft.with_command(Command::Eps(index, code))?)
+        }
+        Key::Phi => {
+            let index = draft.indexed(first(text))?;
+            let code = draft.coded(behind(text))?;
+            Ok(draft.with_command(Command::Phi(index, code))?)
+        }
+        Key::Look => looked(is_down(first(text)), behind(text), draft),
+        Key::Demazure => {
+            let indices = draft.indices(alloc, text)?;
+            Ok(draft.with_ask(Ask::Demazure(indices))?)
+        }
+        Key::Tops => {
+            let shape = arguments::shaped(alloc, text, draft.cartan())?;
+            Ok(draft.with_ask(Ask::Tops(shape))?)
+        }
+        Key::Reflect => {
+            let index = draft.indexed(first(text))?;
+            Ok(draft.with_ask(Ask::Reflect(index))?)
+        }
+    }
+}
+
+/// What the line `cells` makes of a draft.
+fn cells_given(text: &[u8], draft: Draft) -> Result<Draft, Stop>
+    ensures { Gives result (spec.celled (words text.now) draft) }
+{
+    let cells = arguments::numbered(first(text))?;
+    if cells < 1 || cells > MOST_CELLS {
+        return Err(Stop::Why(JobWhy::CellsRange));
+    }
+    Ok(draft.with_cells(cells))
+}
+
+/// The draft with a command that draws an arrow of a word.
+fn moved(down: bool, text: &[u8], draft: Draft) -> Result<Draft, Stop>
+    requires { length (last_script draft) < 4096 }
+    ensures { Gives result (spec.commanded_at draft (words text.now) (λ i c. command.Move (spec.arrow down i) c)) }
+{
+    let index = draft.indexed(first(text))?;
+    let code = draft.coded(behind(text))?;
+    Ok(draft.with_command(Command::Move(Arrow { down, index }, code))?)
+}
+
+/// The draft with a command that looks along an arrow of a word.
+fn looked(down: bool, text: &[u8], draft: Draft) -> Result<Draft, Stop>
+    requires { length (last_script draft) < 4096 }
+    ensures { Gives result (spec.commanded_at draft (words text.now) (λ i c. command.Look (spec.arrow down i) c)) }
+{
+    let index = draft.indexed(first(text))?;
+    let code = draft.coded(behind(text))?;
+    Ok(draft.with_command(Command::Look(Arrow { down, index }, code))?)
+}
