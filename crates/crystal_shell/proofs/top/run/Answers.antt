@@ -12,9 +12,10 @@ returns-in-Ok-write_all-clause-told g c = λ low.
     c.in-Ok.ensures.answer c.status.ensures (c.as_slice.ensures.value ∙ c.in-Ok-text.ensures) c.in-Ok-write_all.ensures.whole
 
 pub returns-clause-write_fault : goal.returns-clause-write_fault
-returns-clause-write_fault g c = λ is.
-    (c.in-Err.ensures.fault,
-    named_front (g.R.Source.left c.args.source.now) (map string_bytes c.args.words.now) (status_of c.in-Ok.answer)
-    (text_of c.in-Ok.answer) c.as_slice.result.now c.in-Err.ensures.part
-    (λ (x : List ℕ). Appends (g.W.Sink.held c.args.sink.now) (g.W.Sink.held c.write_all.new.sink) x)
-    c.in-Ok.ensures.answer (c.as_slice.ensures.value ∙ c.in-Ok-text.ensures) c.in-Err.ensures.front)
+returns-clause-write_fault g c = λ is. (
+  c.in-Err.ensures.fault,
+  named_front (g.R.Source.left c.args.source.now) (map string_bytes c.args.words.now) (status_of c.in-Ok.answer)
+      (text_of c.in-Ok.answer) c.as_slice.result.now c.in-Err.ensures.part
+      (λ (x : List ℕ). Appends (g.W.Sink.held c.args.sink.now) (g.W.Sink.held c.write_all.new.sink) x)
+      c.in-Ok.ensures.answer (c.as_slice.ensures.value ∙ c.in-Ok-text.ensures) c.in-Err.ensures.front,
+)
