@@ -7,7 +7,7 @@ use std::alloc::{AllocError, Global};
 use std::test::Fail;
 
 /// The room of a sink that is never spent.
-const ROOM: usize = 4_000_000;
+const ROOM: usize = 8_000_000;
 
 fn strings(alloc: Global, words: &[&str]) -> Result<Vec<String>, AllocError> {
     let mut all = Vec::new(alloc);
@@ -109,6 +109,8 @@ fn sizes(rt: HostRuntime) -> Result<(), Fail> {
     for (text, line) in [
         ("type A 2\nshape 2 1\n", "\ngraph 8 8\n"),
         ("type A 4\nshape 4 3 2 1\n", "\ngraph 1024 2304\n"),
+        ("type A 5\nshape 5 4 3 2 1\n", "\ngraph 32768 "),
+        ("type C 4\nshape 4 3 2 1\n", "\ngraph 65536 168672\n"),
         (
             "type B 3\nspace s v v v\nstart +++ 2 1 1\n",
             "\ngraph 512 928\n",
