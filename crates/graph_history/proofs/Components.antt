@@ -1,0 +1,123 @@
+-- What is reached from the vertices, closed graphs, and full ones.
+use Rattle.std.proofs.Common.{◌≡◌, refl, sym, ap, subst, ◌∙◌, ℕ, zero, suc, ◌+◌, inl, inr, false, nat_eq, List, [], ◌∷◌, ◌++◌, length, slice_get, map, Option, Some, None, Contains, length-append, arith}
+use Rattle.std.specs.List.{IsDistinct, list_any, AllByRecursion}
+use Rattle.std.specs.Option.{option_and_then}
+use Rattle.std.specs.Cmp.{nat_eq_equiv}
+use Rattle.std.proofs.lemmas.Grind.{common_steps}
+use Rattle.std.proofs.lemmas.List.Elements.{Contains-push_cases}
+use Rattle.std.proofs.lemmas.Map.Keys.{IsDistinct-push}
+use Rattle.crystal_cartan.specs.declared.types.Arrow.{Arrow}
+use Rattle.tensor_words.specs.Operators.{IsArrow, op}
+use Rattle.tensor_words.specs.Worlds.{WorldType}
+use Rattle.tensor_words.specs.Reach.{IsPath, walk, IsReached, Outnumber}
+use Rattle.graph_history.specs.declared.event.Origin.{Origin}
+use Rattle.graph_history.specs.declared.event.Origin.TheVariants.{Root, By}
+use Rattle.graph_history.specs.declared.event.Act.TheVariants.{Spent}
+use Rattle.graph_history.specs.declared.event.Event.{Event}
+use Rattle.graph_history.specs.History.{Vertex, State, empty_state, state_of, HasVertex, HasCode, IsOrigin, IsTarget, MaySpend, LegalFrom, IsLegal, IsClosed}
+use Rattle.graph_history.specs.Laws.{IsReachedIn, VerticesAreReached, ClosedIsReached, ClosedIsComponents, SpentOutnumbers}
+use Rattle.graph_history.proofs.Histories.{one_code, around, legal_prefix, legal_rest}
+use Rattle.graph_history.proofs.SoundStates.{IsSound, sound, reached_more, root_walk}
+
+pub vertices_are_reached : VerticesAreReached
+vertices_are_reached w h x legal (c, there) = (sound w h legal).reached c x there
+
+module _ (w : WorldType) (s : State) (S : IsSound w s) (closed : IsClosed w s) where
+  -- a drawn arrow of a vertex leads on to a vertex
+  step_target : (c y x : ℕ) (a : Arrow) (t : Option ℕ) → HasVertex s c y → op w.space a y ≡ Some x → IsTarget w s a y t → HasCode s x
+  step_target c y x a None there leads target = let e : None ≡ Some x = sym target ∙ leads in cc
+  step_target c y x a (Some d) there leads (z, is, at) =
+      let e : Some z ≡ Some x = sym is ∙ leads in
+      let same : z ≡ x = cc in (d, subst (λ (q : ℕ). HasVertex s d q) same at)
+
+  closed_step : (y x : ℕ) (a : Arrow) → HasCode s y → IsArrow w.space a → op w.space a y ≡ Some x → HasCode s x
+  closed_step y x a (c, there) is leads =
+      let drawn = closed c (y, there) a is in
+      let known = S.simple.targets c a drawn.0 drawn.1 in
+      let same : known.0 ≡ y = one_code s c known.0 y known.1 there in
+      step_target c y x a drawn.0 there leads (subst (λ (q : ℕ). IsTarget w s a q drawn.0) same known.2)
+
+  pub closed_walk : (path : List Arrow) (y x : ℕ) → HasCode s y → IsPath w.space path → walk w.space path y ≡ Some x → HasCode s x
+  unfolding walk
+  closed_walk [] y x here arrows leads = let same : y ≡ x = cc in subst (λ (q : ℕ). HasCode s q) same here
+  closed_walk (a ∷ path) y x here arrows leads = by (op w.space a y) refl leads (λ z. closed_walk path z x)
+    where
+      by : (o : Option ℕ) → op w.space a y ≡ o → option_and_then (walk w.space path) o ≡ Some x → ((z : ℕ) → HasCode s z → IsPath w.space path → walk w.space path z ≡ Some x → HasCode s x) → HasCode s x
+      by None is rest on = cc
+      by (Some z) is rest on = on z (closed_step y z a here arrows.0 is) arrows.1 rest
+
+pub closed_is_reached : ClosedIsReached
+closed_is_reached w h x legal closed = (
+  λ here. vertices_are_reached w h x legal here,
+  λ r. closed_walk w (state_of h) (sound w h legal) closed r.path r.root x r.there r.arrows r.leads,
+)
+
+pub closed_is_components : ClosedIsComponents
+closed_is_components w h codes legal closed roots listed = record {
+  ascending = listed.ascending;
+  sound = λ x among. let r = vertices_are_reached w h x legal (listed.vertices x among) in
+      record { root = r.root; rooted = r.rooted; path = r.path; arrows = r.arrows; leads = r.leads };
+  complete = λ x r. listed.all x (closed_walk w (state_of h) (sound w h legal) closed r.path r.root x (roots r.root r.rooted) r.arrows r.leads);
+}
+
+-- the codes of a list of vertices
+abbrev codes_of : List Vertex → List ℕ
+codes_of vs = map (λ (v : Vertex). v.code) vs
+
+module _ (w : WorldType) where
+  reached_from : (s : State) (x : ℕ) → IsReachedIn w s x → IsReached w x
+  reached_from s x r = record { root = r.root; rooted = r.rooted; path = r.path; arrows = r.arrows; leads = r.leads }
+
+  origin_reached : (s : State) (x : ℕ) (o : Origin) → IsSound w s → IsOrigin w s x o → IsReached w x
+  origin_reached s x Root S rooted = record { root = x; rooted = rooted; path = []; arrows = tt; leads = root_walk w.space x }
+  origin_reached s x (By c a) S (y, there, is, leads) = reached_from s x (reached_more w s a x y (S.reached c y there) is leads)
+
+no_such : (vs : List Vertex) (x : ℕ) → ((k : ℕ) (v : Vertex) → slice_get vs k ≡ Some v → v.code ≡ x → ⊥) → list_any (nat_eq x) (codes_of vs) ≡ false
+no_such [] x none = refl
+no_such (v ∷ vs) x none =
+    let rest = no_such vs x (λ k u at. none (suc k) u at) in
+    let head : v.code ≡ x → ⊥ = none zero v refl in
+    grind (arith, common_steps)
+
+none_by_any : (xs : List ℕ) (x : ℕ) → list_any (nat_eq x) xs ≡ false → AllByRecursion (λ y. nat_eq x y ≡ false) xs
+none_by_any [] x h = tt
+none_by_any (y ∷ xs) x h =
+    let split : (nat_eq x y ≡ false) × (list_any (nat_eq x) xs ≡ false) = grind (arith, common_steps) in
+    (split.0, none_by_any xs x split.1)
+
+distinct_codes : (vs : List Vertex) → ((i j : ℕ) (u v : Vertex) → slice_get vs i ≡ Some u → slice_get vs j ≡ Some v → u.code ≡ v.code → i ≡ j) → IsDistinct nat_eq (codes_of vs)
+unfolding IsDistinct
+distinct_codes [] once = tt
+distinct_codes (v ∷ vs) once = (
+  none_by_any (codes_of vs) v.code (no_such vs v.code (λ k u at is. let e : suc k ≡ zero = once (suc k) zero u v at refl is in absurd (omega arith))),
+  distinct_codes vs (λ i j p q at bt is. let e : suc i ≡ suc j = once (suc i) (suc j) p q at bt is in omega arith),
+)
+
+length_codes : (vs : List Vertex) → length (codes_of vs) ≡ length vs
+length_codes [] = refl
+length_codes (v ∷ vs) = ap suc (length_codes vs)
+
+codes_at : (vs : List Vertex) (x : ℕ) → Contains (codes_of vs) x → (k : ℕ) × (v : Vertex) × (slice_get vs k ≡ Some v) × (v.code ≡ x)
+codes_at [] x (k, below, is) = absurd (omega arith)
+codes_at (v ∷ vs) x (zero, below, is) = (zero, v, refl, is)
+codes_at (v ∷ vs) x (suc k, below, is) = let r = codes_at vs x (k, omega arith, is) in (suc r.0, r.1, r.2, r.3)
+
+spent_here : (w : WorldType) (s : State) (x : ℕ) → IsSound w s → MaySpend w s x → Outnumber w
+spent_here w s x S may = record {
+  codes = codes_of s.vertices ++ x ∷ [];
+  many = length-append (codes_of s.vertices) (x ∷ []) ∙ ap (λ n. n + 1) (length_codes s.vertices ∙ may.full);
+  distinct = IsDistinct-push nat_eq_equiv (codes_of s.vertices) x (distinct_codes s.vertices S.simple.codes)
+      (no_such s.vertices x (λ k v at is. may.fresh v.cell (subst (λ (q : ℕ). HasVertex s v.cell q) is (S.simple.vertex k v at))));
+  sound = λ y among. elim (Contains-push_cases (codes_of s.vertices) x y among) [
+    | inl old ↦ let at = codes_at s.vertices y old in
+        reached_from w s y (subst (λ (q : ℕ). IsReachedIn w s q) at.3 (S.reached at.1.cell at.1.code (S.simple.vertex at.0 at.1 at.2)))
+    | inr new ↦ subst (λ (q : ℕ). IsReached w q) new (origin_reached w s x may.origin S may.cause)
+  ];
+}
+
+pub spent_outnumbers : SpentOutnumbers
+unfolding IsLegal
+spent_outnumbers w h n x legal there =
+    let parts = around h _ there in
+    let split : LegalFrom w empty_state (parts.0 ++ record { caller = n; act = Spent x } ∷ parts.1) = subst (λ (q : List Event). LegalFrom w empty_state q) parts.2 legal in
+    spent_here w (state_of parts.0) x (sound w parts.0 (legal_prefix w parts.0 _ split)) (legal_rest w empty_state parts.0 _ split).0

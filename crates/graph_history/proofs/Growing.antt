@@ -1,0 +1,29 @@
+-- Fronts with further acts of one caller.
+use Rattle.std.proofs.Common.{◌≡◌, refl, sym, ap, ◌∙◌, ℕ, ◌==◌, not, List, [], ◌∷◌, ◌++◌, append-nil, append_assoc, arith}
+use Rattle.std.proofs.lemmas.Grind.{common_steps}
+use Rattle.std.proofs.lemmas.List.Elements.{filter-append}
+use Rattle.tensor_words.specs.Worlds.{WorldType}
+use Rattle.graph_history.specs.declared.event.Act.{Act}
+use Rattle.graph_history.specs.declared.event.Event.{Event}
+use Rattle.graph_history.specs.History.{IsLegal, calls, others}
+use Rattle.graph_history.specs.Desks.{by, Grows, EndsWith}
+
+pub calls_by : (n : ℕ) (acts : List Act) → calls (by n acts) n ≡ by n acts
+calls_by n [] = refl
+calls_by n (a ∷ acts) = grind (arith, common_steps, calls_by n acts)
+
+pub others_by : (n : ℕ) (acts : List Act) → others n (by n acts) ≡ []
+others_by n [] = refl
+others_by n (a ∷ acts) = grind (arith, common_steps, others_by n acts)
+
+pub others_after : (n : ℕ) (h : List Event) (acts : List Act) → others n (h ++ by n acts) ≡ others n h
+others_after n h acts = filter-append (λ (e : Event). not (e.caller == n)) h (by n acts) ∙ ap (λ l. others n h ++ l) (others_by n acts) ∙ append-nil (others n h)
+
+pub grew : (w : WorldType) (n : ℕ) (h : List Event) (acts : List Act) → IsLegal w (h ++ by n acts) → Grows w n h (h ++ by n acts) acts
+grew w n h acts legal = record { more = by n acts; is = refl; own = calls_by n acts; legal = legal }
+
+pub ends : (n : ℕ) (h : List Event) (a : Act) → EndsWith n (h ++ by n (a ∷ []))
+ends n h a = (h, a, refl)
+
+pub ends_two : (n : ℕ) (h : List Event) (a b : Act) → EndsWith n (h ++ by n (a ∷ b ∷ []))
+ends_two n h a b = (h ++ record { caller = n; act = a } ∷ [], b, sym (append_assoc h (record { caller = n; act = a } ∷ []) (record { caller = n; act = b } ∷ [])))

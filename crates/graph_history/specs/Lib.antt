@@ -1,0 +1,7 @@
+pub mod History
+pub mod Laws
+pub mod Fronts
+pub mod Desks
+pub mod Notes
+pub mod Places
+pub mod Plain

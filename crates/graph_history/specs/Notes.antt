@@ -1,0 +1,14 @@
+-- The one seat that a list of events is noted with.
+use Rattle.std.specs.Prelude.{ℕ, ◌≡◌, [], ◌∷◌, ◌++◌}
+use Rattle.atomic_table.specs.Table.{Me, Step}
+use Rattle.tensor_words.specs.Worlds.{WorldType}
+use Rattle.graph_history.specs.declared.event.Event.{Event}
+use Rattle.graph_history.specs.declared.view.View.{View}
+
+-- no event yet
+abbrev pub first_view : WorldType → View
+first_view w = record { world = w; number = 0; calls = []; kept = []; next = 0; left = 0; stake = 0; front = []; olds = []; owed = [] }
+
+-- the front has the event last, and nothing else changed
+abbrev pub noted : Event → Step Unit → Me Unit View → ℕ → Me Unit View → Type 0
+noted e step me found now = now ≡ (record me.0 { front = me.0.front ++ e ∷ [] }, me.1)

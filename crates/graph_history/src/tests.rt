@@ -1,0 +1,100 @@
+//! A desk over lists in memory, by calls.
+use super::*;
+use crystal_cartan::{Arrow, Cartan, Kind};
+use crystal_streams::NoMemory;
+use std::alloc::Global;
+use tensor_words::{Codes, Factor, Space, World};
+
+const F_1: Arrow = Arrow {
+    down: true,
+    index: 1,
+};
+
+const E_1: Arrow = Arrow {
+    down: false,
+    index: 1,
+};
+
+/// The words of two letters in A_1, with the roots `1 1` and `2 1`.
+fn world(cells: u32, roots: Codes) -> Option<World> {
+    let cartan = Cartan::new(Kind::A, 1).ok()?;
+    let space = Space::new(cartan, &[Factor::Vector, Factor::Vector]).ok()?;
+    if roots.len() > 2 {
+        return None;
+    }
+    World::new(space, cells, roots).ok()
+}
+
+fn desk(alloc: Global, cells: u32) -> Result<Option<PlainDesk>, NoMemory> {
+    let roots = Codes::of(Vec::from_array(alloc, [0, 2])?);
+    match world(cells, roots) {
+        Some(world) => Ok(Some(PlainDesk::new(alloc, world, 0)?)),
+        None => Ok(None),
+    }
+}
+
+fn add(desk: &mut PlainDesk, code: u64) -> Option<Added> {
+    if !desk.world().has_root(code) || desk.room() == 0 {
+        return None;
+    }
+    Some(desk.add(code))
+}
+
+fn find(desk: &mut PlainDesk, code: u64) -> Option<Option<u32>> {
+    if code >= desk.space().size() {
+        return None;
+    }
+    Some(desk.find(code))
+}
+
+fn look(desk: &mut PlainDesk, code: u64, arrow: Arrow) -> Option<Look> {
+    if !desk.space().cartan().has_index(arrow.index) {
+        return None;
+    }
+    let cell = desk.seek(code)?;
+    Some(desk.look(cell, arrow))
+}
+
+fn draw(desk: &mut PlainDesk, code: u64, arrow: Arrow) -> Option<Draw> {
+    if !desk.space().cartan().has_index(arrow.index) || desk.room() == 0 {
+        return None;
+    }
+    let cell = desk.seek(code)?;
+    Some(desk.draw(cell, arrow))
+}
+
+fn word(desk: &mut PlainDesk, code: u64) -> Option<u64> {
+    let cell = desk.seek(code)?;
+    Some(desk.word(cell))
+}
+
+#[test]
+fn four_cells(rt: HostRuntime) -> Result<(), NoMemory> {
+    let made = desk(rt.alloc(), 4);
+    let mut desk = made.ok().flatten().expect(&rt, "memory for four cells");
+    assert!(rt; matches!(add(&mut desk, 0), Some(Added::New { .. })));
+    assert_eq!(rt; look(&mut desk, 0, F_1), Some(Look::Blank));
+    let Some(Draw::To { cell }) = draw(&mut desk, 0, F_1) else {
+        panic!(rt; "the arrow leads to a word");
+    };
+    assert_eq!(rt; look(&mut desk, 0, F_1), Some(Look::To { cell }));
+    assert_eq!(rt; find(&mut desk, 1), Some(Some(cell)));
+    assert_eq!(rt; word(&mut desk, 1), Some(1));
+    assert_eq!(rt; draw(&mut desk, 0, E_1), Some(Draw::Zero));
+    assert_eq!(rt; find(&mut desk, 3), Some(None));
+    desk.call_as(1);
+    assert!(rt; matches!(add(&mut desk, 0), Some(Added::Old { .. })));
+    let _front = desk.front();
+    Ok(())
+}
+
+#[test]
+fn one_cell(rt: HostRuntime) -> Result<(), NoMemory> {
+    let made = desk(rt.alloc(), 1);
+    let mut desk = made.ok().flatten().expect(&rt, "memory for one cell");
+    assert!(rt; matches!(add(&mut desk, 0), Some(Added::New { .. })));
+    assert_eq!(rt; add(&mut desk, 2), Some(Added::Full));
+    assert_eq!(rt; find(&mut desk, 2), Some(None));
+    assert_eq!(rt; draw(&mut desk, 0, F_1), Some(Draw::Full));
+    Ok(())
+}
