@@ -1,0 +1,5 @@
+pub mod Rows
+pub mod Running
+pub mod Apart
+pub mod JobScripts
+pub mod Worked

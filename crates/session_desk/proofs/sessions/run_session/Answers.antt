@@ -1,0 +1,6 @@
+use Rattle.session_desk.proofs.Apart.{calls_kept}
+use Rattle.session_desk.proofs.sessions.run_session.Goals as goal
+
+pub returns-clause-others : goal.returns-clause-others
+returns-clause-others c =
+    calls_kept c.args.desk.now c.call_as.new.self c.run_script.new.desk c.args.caller c.call_as.ensures c.run_script.ensures.same.1 c.run_script.ensures.same.2

@@ -1,0 +1,58 @@
+-- Sessions: what may be asked, and what a session on a desk has told.
+use Rattle.std.specs.Prelude.{ℕ, ◌+◌, ◌<◌, ◌≡◌, List, [], ◌++◌, length, slice_index_or, Some, All, Contains}
+use Rattle.crystal_cartan.specs.Types.{HasIndex}
+use Rattle.tensor_words.specs.Spaces.{size}
+use Rattle.tensor_words.specs.Operators.{IsArrow}
+use Rattle.tensor_words.specs.Worlds.{WorldType}
+use Rattle.graph_history.specs.declared.event.Act.{Act}
+use Rattle.graph_history.specs.declared.event.Event.{Event}
+use Rattle.graph_history.specs.History.{calls, IsLegal}
+use Rattle.graph_history.specs.Desks.{by, Grows}
+use Rattle.job_text.specs.declared.commands.Command.{Command}
+use Rattle.job_text.specs.declared.commands.Command.TheVariants.{Add, Find, Look, Move, Wt, Eps, Phi}
+use Rattle.session_desk.specs.declared.reply.Reply.{Reply}
+use Rattle.session_desk.specs.Replies.{Told, told_of, replies}
+use Rattle.session_desk.specs.Texts.{IsPrintable}
+
+-- a command puts in roots alone, and speaks of words, arrows and indices of the world's space
+abbrev pub IsAsked : WorldType → Command → Type 0
+IsAsked w (Add x) = Contains w.roots x
+IsAsked w (Find x) = x < size w.space
+IsAsked w (Look a x) = IsArrow w.space a × (x < size w.space)
+IsAsked w (Move a x) = IsArrow w.space a × (x < size w.space)
+IsAsked w (Wt x) = x < size w.space
+IsAsked w (Eps i x) = HasIndex w.space.cartan i × (x < size w.space)
+IsAsked w (Phi i x) = HasIndex w.space.cartan i × (x < size w.space)
+
+-- a front grew by acts of this caller from which just this reply is told, whatever comes after
+pub record Tells (w : WorldType) (n : ℕ) (old new : List Event) (tell : List Event → Told) (reply : Reply) : Type 0 where
+  pub acts : List Act
+  pub grows : Grows w n old new acts
+  pub told : (rest : List Event) → tell (by n acts ++ rest) ≡ Some (reply, rest)
+
+abbrev pub Answers : WorldType → ℕ → List Event → List Event → Command → Reply → Type 0
+Answers w n old new command reply = Tells w n old new (told_of w.space command) reply
+
+-- a script ran: the front is legal and begins with the one before, the list of replies grew by those of the script, told
+-- from the events by which the caller's calls grew, and each of them can be printed
+pub record Ran (w : WorldType) (n : ℕ) (old new : List Event) (script : List Command) (before after : List Reply) : Type 0 where
+  pub more : List Event
+  pub is : new ≡ old ++ more
+  pub legal : IsLegal w new
+  pub told : List Reply
+  pub appended : after ≡ before ++ told
+  pub replied : replies w.space script (calls more n) ≡ Some told
+  pub printable : All (IsPrintable w.space) told
+
+-- a script ran under a number that has no other events
+pub record RanAlone (w : WorldType) (n : ℕ) (h : List Event) (script : List Command) (told : List Reply) : Type 0 where
+  pub legal : IsLegal w h
+  pub replied : replies w.space script (calls h n) ≡ Some told
+  pub printable : All (IsPrintable w.space) told
+
+-- the scripts of the sessions 1, 2, .. ran, each under its own number
+pub record AllRan (w : WorldType) (h : List Event) (scripts : List (List Command)) (told : List (List Reply)) : Type 0 where
+  pub legal : IsLegal w h
+  pub count : length told ≡ length scripts
+  pub replied : (k : ℕ) → k < length scripts → replies w.space (slice_index_or scripts k []) (calls h (k + 1)) ≡ Some (slice_index_or told k [])
+  pub printable : (k : ℕ) → k < length scripts → All (IsPrintable w.space) (slice_index_or told k [])

@@ -1,0 +1,87 @@
+//! Sessions one after another on a desk over lists in memory.
+ghost use Rattle.std.specs.Prelude.{◌≡◌, ◌≢◌, ℕ, ◌+◌, ◌*◌, ◌<◌, ◌≤◌, [], length, All, IfOk};
+ghost use Rattle.graph_history.specs.History.{calls};
+ghost use Rattle.session_desk.specs.Sessions.{IsAsked, AllRan, RanAlone};
+
+use crate::reply::Reply;
+use crate::scripts::run_script;
+use crystal_streams::NoMemory;
+use graph_history::{Desk, PlainDesk};
+use job_text::{Script, Scripts};
+use std::alloc::Global;
+use std::marker::Model;
+
+/// The replies of one session, in order.
+#[derive(Debug, Drop)]
+pub struct Replies {
+    list: Vec<Reply>,
+}
+
+impl Model for Replies {
+    ghost use Rattle.std.specs.Prelude.{List};
+    ghost use Rattle.session_desk.specs.declared.reply.Reply.{Reply};
+
+    ghost Value = { List Reply };
+
+    ghost view = { λ r. r.list.items };
+}
+
+impl Replies {
+    /// A list of replies.
+    pub fn of(list: Vec<Reply>) -> Replies
+        ensures { result ≡ list.items }
+    {
+        Replies { list }
+    }
+
+    /// The replies.
+    pub fn as_slice(&self) -> &[Reply]
+        ensures { result.now ≡ self.now }
+    {
+        self.list.as_slice()
+    }
+}
+
+/// Runs the scripts one after another on one desk, that of session s, counted from 1, under the caller number s.
+pub fn run_sessions(
+    alloc: Global,
+    desk: &mut PlainDesk,
+    scripts: &Scripts,
+) -> Result<Vec<Replies>, NoMemory>
+    requires asked { All (All (IsAsked desk.old.world)) scripts.now }
+    requires few { length scripts.now ≤ 16 }
+    requires short { All (λ script. length script ≤ 4096) scripts.now }
+    requires room { 4096 * length scripts.now ≤ desk.old.room }
+    requires fresh { (n : ℕ) → 1 ≤ n → n ≤ length scripts.now → calls desk.old.front n ≡ [] }
+    ensures world { desk.new.world ≡ desk.old.world }
+    ensures ran { IfOk result (λ told. AllRan desk.old.world desk.new.front scripts.now told.items) }
+{
+    let mut told = Vec::with_capacity(alloc, scripts.len())?;
+    let _space = desk.space();
+    'sessions: for place in 0..scripts.len() {
+        let replies = run_session(alloc, desk, place as u64 + 1, scripts.at(place))?;
+        told.push_reserved(replies);
+    }
+    Ok(told)
+}
+
+/// Runs a script under a caller number that has no event yet.
+fn run_session(
+    alloc: Global,
+    desk: &mut PlainDesk,
+    caller: u64,
+    script: &Script,
+) -> Result<Replies, NoMemory>
+    requires asked { All (IsAsked desk.old.world) script.now }
+    requires room { length script.now ≤ desk.old.room }
+    requires fresh { calls desk.old.front caller ≡ [] }
+    ensures world { desk.new.world ≡ desk.old.world }
+    ensures room { desk.old.room ≤ desk.new.room + length script.now }
+    ensures others { (n : ℕ) → n ≢ caller → calls desk.new.front n ≡ calls desk.old.front n }
+    ensures ran { IfOk result (λ told. RanAlone desk.old.world caller desk.new.front script.now told) }
+{
+    let mut list = Vec::with_capacity(alloc, script.len())?;
+    desk.call_as(caller);
+    run_script(desk, script, &mut list);
+    Ok(Replies { list })
+}

@@ -1,0 +1,69 @@
+//! What replies tell of words by their codes alone.
+ghost use Rattle.std.specs.Prelude.{◌≡◌, ℕ, ◌<◌};
+ghost use Rattle.crystal_cartan.specs.Types.{HasIndex};
+ghost use Rattle.tensor_words.specs.Spaces.{size};
+ghost use Rattle.tensor_words.specs.Codes.{IsWord, word_of};
+ghost use Rattle.tensor_words.specs.Operators.{IsArrow, op};
+ghost use Rattle.session_desk.specs.Replies.{drawn_reply, weight_at, eps_at, phi_at};
+ghost use Rattle.session_desk.specs.Texts.{IsPrintable};
+
+use crate::reply::Reply;
+use crystal_cartan::Arrow;
+use tensor_words::{Space, Word, next_code};
+
+/// The word with this code.
+pub(crate) fn word_with(space: &Space, code: u64) -> Word
+    requires { code < size space.now }
+    ensures value { result ≡ word_of space.now code }
+    ensures word { IsWord space.now result }
+{
+    match space.word_of(code) {
+        Some(word) => word,
+        None => unreachable!(),
+    }
+}
+
+/// Where a drawn arrow leads.
+pub(crate) fn drawn(space: &Space, arrow: Arrow, code: u64) -> Reply
+    requires arrow { IsArrow space.now arrow }
+    requires code { code < size space.now }
+    ensures reply { result ≡ drawn_reply (op space.now arrow code) }
+    ensures printable { IsPrintable space.now result }
+{
+    match next_code(space, code, arrow) {
+        None => Reply::Zero,
+        Some(next) => Reply::Word(next),
+    }
+}
+
+/// The weight of a word.
+#[tactic(auto, unfolding(crate::specs::Replies::weight_at))]
+pub(crate) fn weight(space: &Space, code: u64) -> Reply
+    requires { code < size space.now }
+    ensures reply { result ≡ Reply.Weight (weight_at space.now code) }
+    ensures printable { IsPrintable space.now result }
+{
+    Reply::Weight(space.weight(&word_with(space, code)))
+}
+
+/// The length of the string of a word at an index, by raising.
+#[tactic(auto, unfolding(crate::specs::Replies::eps_at))]
+pub(crate) fn eps(space: &Space, index: u8, code: u64) -> Reply
+    requires index { HasIndex space.now.cartan index }
+    requires code { code < size space.now }
+    ensures reply { result ≡ Reply.Number (eps_at space.now index code) }
+    ensures printable { IsPrintable space.now result }
+{
+    Reply::Number(space.by_rule_eps(&word_with(space, code), index))
+}
+
+/// The length of the string of a word at an index, by lowering.
+#[tactic(auto, unfolding(crate::specs::Replies::phi_at))]
+pub(crate) fn phi(space: &Space, index: u8, code: u64) -> Reply
+    requires index { HasIndex space.now.cartan index }
+    requires code { code < size space.now }
+    ensures reply { result ≡ Reply.Number (phi_at space.now index code) }
+    ensures printable { IsPrintable space.now result }
+{
+    Reply::Number(space.by_rule_phi(&word_with(space, code), index))
+}
