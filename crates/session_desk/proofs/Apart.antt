@@ -1,12 +1,13 @@
 -- Sessions under different numbers.
-use Rattle.std.proofs.Common.{◌≡◌, ◌≢◌, refl, sym, ◌∙◌, ap, ap₂, ℕ, List, [], ◌∷◌, arith}
+use Rattle.std.proofs.Common.{◌≡◌, ◌≢◌, refl, sym, ◌∙◌, ap, ap₂, ℕ, ◌+◌, ◌<◌, ◌⊎◌, inl, inr, List, [], ◌∷◌, ◌++◌, append-nil, append_assoc, arith}
 use Rattle.std.proofs.lemmas.Grind.{common_steps}
 use Rattle.graph_history.specs.declared.event.Event.{Event}
 use Rattle.graph_history.specs.History.{calls, others}
 use Rattle.graph_history.specs.Plain.{PlainValue}
+use Rattle.session_desk.specs.Sessions.{Continues}
 
 -- the calls of another number are among the events of all others
-calls_others : (h : List Event) (m n : ℕ) → n ≢ m → calls (others m h) n ≡ calls h n
+pub calls_others : (h : List Event) (m n : ℕ) → n ≢ m → calls (others m h) n ≡ calls h n
 calls_others [] m n apart = refl
 calls_others (e ∷ h) m n apart = grind (arith, common_steps, calls_others h m n apart)
 
@@ -21,3 +22,23 @@ calls_kept old mid new m is same bond n apart =
     let front : mid.front ≡ old.front = ap (λ (v : PlainValue). v.front) is in
     calls_stay old.front new.front m n apart
     (ap (λ (k : ℕ). others k new.front) (sym (same ∙ caller)) ∙ bond ∙ ap₂ (λ (k : ℕ) (l : List Event). others k l) caller front)
+
+-- a history that goes on begins with all that was before
+pub continues_still : (h : List Event) → Continues h h
+continues_still h = ([], sym (append-nil h))
+
+pub continues_on : (old mid new : List Event) → Continues old mid → Continues mid new → Continues old new
+continues_on old mid new (first, before) (second, after) =
+    (first ++ second, after ∙ ap (λ (l : List Event). l ++ second) before ∙ append_assoc old first second)
+
+-- a desk that was called under another number, and then went on
+pub continues_as : (old mid : PlainValue) (n : ℕ) (new more : List Event) → mid ≡ record old { caller = n } → new ≡ mid.front ++ more → Continues old.front new
+continues_as old mid n new more is grown =
+    let front : mid.front ≡ old.front = ap (λ (v : PlainValue). v.front) is in
+    (more, grown ∙ ap (λ (l : List Event). l ++ more) front)
+
+-- the callers that have no part in the sessions, one session later
+pub others_on : (old mid new : List Event) (place : ℕ) → ((n : ℕ) → (n ≡ 0) ⊎ (place < n) → calls mid n ≡ calls old n)
+    → ((n : ℕ) → n ≢ place + 1 → calls new n ≡ calls mid n) → (n : ℕ) → (n ≡ 0) ⊎ (place + 1 < n) → calls new n ≡ calls old n
+others_on old mid new place before step n (inl none) = step n (λ same. absurd (omega (arith, none, same))) ∙ before n (inl none)
+others_on old mid new place before step n (inr later) = step n (λ same. absurd (omega (arith, later, same))) ∙ before n (inr (omega (arith, later)))

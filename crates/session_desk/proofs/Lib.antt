@@ -3,3 +3,4 @@ pub mod Running
 pub mod Apart
 pub mod JobScripts
 pub mod Worked
+pub mod AllRunning

@@ -24,6 +24,10 @@ IsAsked w (Wt x) = x < size w.space
 IsAsked w (Eps i x) = HasIndex w.space.cartan i × (x < size w.space)
 IsAsked w (Phi i x) = HasIndex w.space.cartan i × (x < size w.space)
 
+-- a history begins with another
+abbrev pub Continues : List Event → List Event → Type 0
+Continues old new = (more : List Event) × (new ≡ old ++ more)
+
 -- a front grew by acts of this caller from which just this reply is told, whatever comes after
 pub record Tells (w : WorldType) (n : ℕ) (old new : List Event) (tell : List Event → Told) (reply : Reply) : Type 0 where
   pub acts : List Act

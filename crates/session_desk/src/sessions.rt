@@ -1,7 +1,7 @@
 //! Sessions one after another on a desk over lists in memory.
-ghost use Rattle.std.specs.Prelude.{◌≡◌, ◌≢◌, ℕ, ◌+◌, ◌*◌, ◌<◌, ◌≤◌, [], length, All, IfOk};
+ghost use Rattle.std.specs.Prelude.{◌≡◌, ◌≢◌, ℕ, ◌+◌, ◌*◌, ◌<◌, ◌≤◌, ◌⊎◌, [], length, All, IfOk};
 ghost use Rattle.graph_history.specs.History.{calls};
-ghost use Rattle.session_desk.specs.Sessions.{IsAsked, AllRan, RanAlone};
+ghost use Rattle.session_desk.specs.Sessions.{IsAsked, AllRan, Continues, RanAlone};
 
 use crate::reply::Reply;
 use crate::scripts::run_script;
@@ -42,7 +42,8 @@ impl Replies {
     }
 }
 
-/// Runs the scripts one after another on one desk, that of session s, counted from 1, under the caller number s.
+/// Runs the scripts one after another on one desk, that of session s, counted from 1, under the caller number s. No
+/// other caller has further events.
 pub fn run_sessions(
     alloc: Global,
     desk: &mut PlainDesk,
@@ -54,6 +55,8 @@ pub fn run_sessions(
     requires room { 4096 * length scripts.now ≤ desk.old.room }
     requires fresh { (n : ℕ) → 1 ≤ n → n ≤ length scripts.now → calls desk.old.front n ≡ [] }
     ensures world { desk.new.world ≡ desk.old.world }
+    ensures begins { Continues desk.old.front desk.new.front }
+    ensures others { (n : ℕ) → (n ≡ 0) ⊎ (length scripts.now < n) → calls desk.new.front n ≡ calls desk.old.front n }
     ensures ran { IfOk result (λ told. AllRan desk.old.world desk.new.front scripts.now told.items) }
 {
     let mut told = Vec::with_capacity(alloc, scripts.len())?;
@@ -77,6 +80,7 @@ fn run_session(
     requires fresh { calls desk.old.front caller ≡ [] }
     ensures world { desk.new.world ≡ desk.old.world }
     ensures room { desk.old.room ≤ desk.new.room + length script.now }
+    ensures begins { Continues desk.old.front desk.new.front }
     ensures others { (n : ℕ) → n ≢ caller → calls desk.new.front n ≡ calls desk.old.front n }
     ensures ran { IfOk result (λ told. RanAlone desk.old.world caller desk.new.front script.now told) }
 {

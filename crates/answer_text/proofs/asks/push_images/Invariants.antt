@@ -1,0 +1,8 @@
+use Rattle.std.proofs.Common.{◌≡◌, ◌++◌, take}
+use Rattle.answer_text.specs.Texts.{ended, numbered}
+use Rattle.answer_text.specs.Asks.{image_line}
+use Rattle.answer_text.proofs.asks.push_images.Given as goal
+
+abbrev pub invariant-images : goal.invariant-images
+invariant-images l =
+    l.out.items ≡ l.fn.out.items ++ numbered (λ rank image. ended (image_line rank image)) 0 (take l.place l.images)

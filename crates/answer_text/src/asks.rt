@@ -1,0 +1,218 @@
+//! Answers to asks about a finished graph.
+ghost use Rattle.std.specs.Prelude.{◌≡◌, ◌+◌, ◌*◌, ◌^◌, ◌≤◌, ◌<◌, ◌++◌, length, All, OnOk};
+ghost use Rattle.std.specs.List.{flat_map};
+ghost use Rattle.crystal_cartan.specs.Types.{HasIndex};
+ghost use Rattle.crystal_cartan.specs.Weights.{IsSmall};
+ghost use Rattle.answer_text.specs.Texts.{ended, numbered};
+ghost use Rattle.answer_text.specs.Asks.{listed, demazure_head, member_line, demazure_text, tops_head, shape_text, top_line, tops_text, reflection_head, image_line, reflection_text};
+
+use crate::lines::{print_behind_blank, push_line};
+use canonical_graph::Finished;
+use crystal_cartan::Weight;
+use crystal_streams::{Line, NoMemory};
+use tableau_reading::{Shape, print_weight, print_word};
+
+/// Appends a Demazure subset: `demazure I1 I2 .. | COUNT`, and `RANK | WORD` for each member.
+#[tactic(auto, unfolding(crate::specs::Asks::demazure_text))]
+pub fn push_demazure(
+    out: &mut Vec<u8>,
+    finished: &Finished,
+    indices: &[u8],
+    ranks: &[u32],
+) -> Result<(), NoMemory>
+    requires indices { All (HasIndex finished.now.space.cartan) indices.now }
+    requires few { length indices.now ≤ 64 }
+    requires ranks { All (λ rank. rank < length finished.now.codes) ranks.now }
+    ensures { OnOk result (out.new.items ≡ out.old.items
+        ++ demazure_text finished.now indices.now ranks.now) }
+{
+    let _space = finished.space();
+    push_line(out, &demazure_head(indices, ranks.len()))?;
+    push_members(out, finished, ranks)
+}
+
+#[tactic(auto, unfolding(crate::specs::Asks::demazure_head))]
+fn demazure_head(indices: &[u8], count: usize) -> Line
+    requires indices { All (λ index. index < 10) indices.now }
+    requires few { length indices.now ≤ 64 }
+    requires count { count < 2 ^ 63 }
+    ensures { result ≡ demazure_head indices.now count }
+{
+    let mut line = Line::new();
+    line.text(b"demazure");
+    print_indices(indices, &mut line);
+    line.text(b" | ");
+    line.number(count as i64);
+    line
+}
+
+/// Appends indices to a line, each with a blank in front of it.
+fn print_indices(indices: &[u8], line: &mut Line)
+    requires indices { All (λ index. index < 10) indices.now }
+    requires room { length line.old + 2 * length indices.now ≤ 400 }
+    ensures text { line.new ≡ line.old ++ listed indices.now }
+    ensures fits { length line.new ≤ length line.old + 2 * length indices.now }
+{
+    'indices: for index in indices {
+        print_behind_blank(*index, line);
+    }
+}
+
+/// Appends a line for each member of a subset.
+fn push_members(out: &mut Vec<u8>, finished: &Finished, ranks: &[u32]) -> Result<(), NoMemory>
+    requires { All (λ rank. rank < length finished.now.codes) ranks.now }
+    ensures { OnOk result (out.new.items ≡ out.old.items
+        ++ flat_map (λ rank. ended (member_line finished.now rank)) ranks.now) }
+{
+    'members: for rank in ranks {
+        push_line(out, &member_line(finished, *rank))?;
+    }
+    Ok(())
+}
+
+#[tactic(auto, unfolding(crate::specs::Asks::member_line))]
+fn member_line(finished: &Finished, rank: u32) -> Line
+    requires { rank < length finished.now.codes }
+    ensures { result ≡ member_line finished.now rank }
+{
+    let word = finished.word_at(rank);
+    let mut line = Line::new();
+    line.number(i64::from(rank));
+    line.text(b" | ");
+    print_word(finished.space(), &word, &mut line);
+    line
+}
+
+/// Appends the product tops with a shape: `tops N1 N2 .. | COUNT` with the lengths of its rows, and `WORD | WEIGHT`
+/// for each top.
+#[tactic(auto, unfolding(crate::specs::Asks::tops_text))]
+pub fn push_tops(
+    out: &mut Vec<u8>,
+    finished: &Finished,
+    shape: &Shape,
+    tops: &[(u32, Weight)],
+) -> Result<(), NoMemory>
+    requires ranks { All (λ top. top.0 < length finished.now.codes) tops.now }
+    requires small { All (λ top. IsSmall top.1) tops.now }
+    ensures { OnOk result (out.new.items ≡ out.old.items
+        ++ tops_text finished.now shape.now tops.now) }
+{
+    push_line(out, &tops_head(shape, tops.len()))?;
+    push_top_lines(out, finished, &shape_line(shape), tops)
+}
+
+#[tactic(auto, unfolding(crate::specs::Asks::tops_head))]
+fn tops_head(shape: &Shape, count: usize) -> Line
+    requires { count < 2 ^ 63 }
+    ensures { result ≡ tops_head shape.now.rows count }
+{
+    let mut line = Line::new();
+    line.text(b"tops");
+    print_rows(shape, &mut line);
+    line.text(b" | ");
+    line.number(count as i64);
+    line
+}
+
+/// Appends the lengths of a shape's rows to a line, each with a blank in front of it.
+fn print_rows(shape: &Shape, line: &mut Line)
+    requires { length line.old ≤ 100 }
+    ensures text { line.new ≡ line.old ++ listed shape.now.rows }
+    ensures fits { length line.new ≤ length line.old + 189 }
+{
+    'rows: for place in 0..shape.rows() {
+        print_behind_blank(shape.row(place + 1), line);
+    }
+}
+
+/// The top word of a shape, in a line of its own.
+#[tactic(auto, unfolding(crate::specs::Asks::shape_text))]
+fn shape_line(shape: &Shape) -> Line
+    ensures text { result ≡ shape_text shape.now }
+    ensures fits { length result ≤ 160 }
+{
+    let mut line = Line::new();
+    print_word(&shape.space(), &shape.top(), &mut line);
+    line
+}
+
+/// Appends a line for each top, given the top word of the shape as it is printed.
+fn push_top_lines(
+    out: &mut Vec<u8>,
+    finished: &Finished,
+    word: &Line,
+    tops: &[(u32, Weight)],
+) -> Result<(), NoMemory>
+    requires short { length word.now ≤ 160 }
+    requires ranks { All (λ top. top.0 < length finished.now.codes) tops.now }
+    requires small { All (λ top. IsSmall top.1) tops.now }
+    ensures { OnOk result (out.new.items ≡ out.old.items
+        ++ flat_map (λ top. ended (top_line finished.now word.now top.0 top.1)) tops.now) }
+{
+    'tops: for (rank, weight) in tops {
+        push_line(out, &top_line(finished, word, *rank, weight))?;
+    }
+    Ok(())
+}
+
+#[tactic(auto, unfolding(crate::specs::Asks::top_line))]
+fn top_line(finished: &Finished, word: &Line, rank: u32, weight: &Weight) -> Line
+    requires short { length word.now ≤ 160 }
+    requires rank { rank < length finished.now.codes }
+    requires small { IsSmall weight.now }
+    ensures { result ≡ top_line finished.now word.now rank weight.now }
+{
+    let mut line = Line::new();
+    print_word(finished.space(), &finished.word_at(rank), &mut line);
+    line.text(b" ");
+    line.text(word.bytes());
+    line.text(b" | ");
+    print_weight(weight, &mut line);
+    line
+}
+
+/// Appends the reflection of an index: `reflect I | COUNT`, and `RANK | IMAGE` for each vertex in ascending rank.
+#[tactic(auto, unfolding(crate::specs::Asks::reflection_text))]
+pub fn push_reflection(out: &mut Vec<u8>, index: u8, images: &[u32]) -> Result<(), NoMemory>
+    requires { length images.now < 2 ^ 32 }
+    ensures { OnOk result (out.new.items ≡ out.old.items ++ reflection_text index images.now) }
+{
+    push_line(out, &reflection_head(index, images.len()))?;
+    push_images(out, images)
+}
+
+#[tactic(auto, unfolding(crate::specs::Asks::reflection_head))]
+fn reflection_head(index: u8, count: usize) -> Line
+    requires { count < 2 ^ 63 }
+    ensures { result ≡ reflection_head index count }
+{
+    let mut line = Line::new();
+    line.text(b"reflect ");
+    line.number(i64::from(index));
+    line.text(b" | ");
+    line.number(count as i64);
+    line
+}
+
+/// Appends a line for each vertex and its image.
+fn push_images(out: &mut Vec<u8>, images: &[u32]) -> Result<(), NoMemory>
+    requires { length images.now < 2 ^ 32 }
+    ensures { OnOk result (out.new.items ≡ out.old.items
+        ++ numbered (λ rank image. ended (image_line rank image)) 0 images.now) }
+{
+    'images: for place in 0..images.len() {
+        push_line(out, &image_line(place as u32, images[place]))?;
+    }
+    Ok(())
+}
+
+#[tactic(auto, unfolding(crate::specs::Asks::image_line))]
+fn image_line(rank: u32, image: u32) -> Line
+    ensures { result ≡ image_line rank image }
+{
+    let mut line = Line::new();
+    line.number(i64::from(rank));
+    line.text(b" | ");
+    line.number(i64::from(image));
+    line
+}

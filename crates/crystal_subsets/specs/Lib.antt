@@ -1,0 +1,3 @@
+pub mod DemazureSubsets
+pub mod ProductTops
+pub mod Marks
