@@ -1,4 +1,4 @@
-pub mod Arrows
-pub mod Lines
 pub mod Calls
+pub mod Histories
+pub mod Results
 pub mod Words

@@ -1,36 +1,23 @@
 //! What the program answers.
-ghost use Rattle.std.specs.Prelude.{◌≡◌};
+use graph_history::Front;
 
-use canonical_graph::Finished;
-use crystal_cartan::Cartan;
+/// How a run ended.
+#[derive(Drop)]
+pub struct Outcome {
+    /// 0 done, 1 words refused, 2 job refused, 3 more words are reached than there are cells, 4 a read failed, 5 a
+    /// write failed, 6 want of memory.
+    pub status: u8,
+    /// The history of the sessions, empty where none was served.
+    pub front: Front,
+}
 
 /// An answer, before it is written.
 #[derive(Drop)]
-pub(crate) enum Answer {
-    /// The command words are refused, with the number of the fault.
-    WordsRefused { fault: u8 },
-    /// The job is refused, at this line and with the number of the fault.
-    JobRefused { line: u32, fault: u8 },
-    /// The finished graph.
-    Whole(Finished),
-    /// More words are reached than there are cells.
-    Full(Cartan),
-}
-
-impl Answer {
-    ghost use Rattle.crystal_shell.specs.Answers.{status_of};
-
+pub(crate) struct Answer {
     /// The status with which the program ends where the answer is written.
-    pub(crate) fn status(&self) -> u8
-        ensures { result ≡ status_of self.now }
-    {
-        match self {
-            Answer::WordsRefused { .. } => 1,
-            Answer::JobRefused { .. } => 2,
-            Answer::Whole(_) => 0,
-            Answer::Full(_) => 3,
-        }
-    }
+    pub(crate) status: u8,
+    pub(crate) front: Front,
+    pub(crate) text: Vec<u8>,
 }
 
 /// Why there is no answer.

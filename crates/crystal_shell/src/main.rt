@@ -2,9 +2,9 @@
 #![tactic(auto)]
 
 mod answer;
+mod sessions;
 #[cfg(test)]
 mod tests;
-mod texts;
 mod top;
 
 use crystal_streams::{InputAdapter, OutputAdapter};
@@ -23,7 +23,8 @@ fn main(rt: HostRuntime) -> ExitCode {
     };
     let mut source = InputAdapter::new(rt.stdin());
     let mut sink = OutputAdapter::new(rt.stdout());
-    ExitCode::from(top::run(rt.alloc(), words.as_slice(), &mut source, &mut sink))
+    let outcome = top::run(rt.alloc(), words.as_slice(), &mut source, &mut sink);
+    ExitCode::from(outcome.status)
 }
 
 /// The command words without the program's name; none where one of them is no text.

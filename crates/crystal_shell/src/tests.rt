@@ -22,8 +22,8 @@ fn ran(alloc: Global, words: &[&str], input: &[u8]) -> Result<(u8, Vec<u8>), Fai
     let words = strings(alloc, words)?;
     let mut source = MemorySource::new(input.to_vec(alloc)?, Vec::new(alloc), 4096);
     let mut sink = MemorySink::new(alloc, ROOM, Vec::new(alloc), 4096)?;
-    let status = run(alloc, words.as_slice(), &mut source, &mut sink);
-    Ok((status, sink.bytes().to_vec(alloc)?))
+    let outcome = run(alloc, words.as_slice(), &mut source, &mut sink);
+    Ok((outcome.status, sink.bytes().to_vec(alloc)?))
 }
 
 /// A job with this text behind the header.
@@ -100,6 +100,82 @@ fn whole_texts(rt: HostRuntime) -> Result<(), Fail> {
         let (ended, output) = grown(rt.alloc(), growers, text)?;
         assert_eq!(rt; ended, status);
         assert_eq!(rt; output.as_slice(), answer.as_bytes());
+    }
+    Ok(())
+}
+
+const TWO_STARTS: &str = "graph 4 2\n0 | 1 1 | 2 0 | 1:1\n1 | 1 2 | 1 1 | 1:3\n2 | 2 1 | 1 1 | -\n\
+3 | 2 2 | 0 2 | -\nend\n";
+
+const ONE_START: &str =
+    "graph 3 2\n0 | 1 1 | 2 0 | 1:1\n1 | 1 2 | 1 1 | 1:2\n2 | 2 2 | 0 2 | -\nend\n";
+
+/// A job in A_1 over words of two letters, with the start `1 1` and these further lines.
+fn job_of_pairs(alloc: Global, lines: &str) -> Result<Vec<u8>, AllocError> {
+    let mut bytes = job(alloc, "type A 1\nspace v v\nstart 1 1\n")?;
+    bytes.extend_from_slice(lines.as_bytes())?;
+    Ok(bytes)
+}
+
+/// The answer of such a job, from these replies and this graph.
+fn answer_of_pairs(alloc: Global, replies: &str, graph: &str) -> Result<Vec<u8>, AllocError> {
+    let mut bytes = b"crystal A 1\n".to_vec(alloc)?;
+    bytes.extend_from_slice(replies.as_bytes())?;
+    bytes.extend_from_slice(graph.as_bytes())?;
+    Ok(bytes)
+}
+
+#[test]
+fn sessions(rt: HostRuntime) -> Result<(), Fail> {
+    let alloc = rt.alloc();
+    for (lines, status, replies, graph) in [
+        (
+            "session\nadd 2 1\nsession\nadd 2 1\n",
+            0,
+            "session 1\nnew\nsession 2\nold\n",
+            TWO_STARTS,
+        ),
+        (
+            "session\nadd 2 1\nfind 2 1\n",
+            0,
+            "session 1\nnew\nthere\n",
+            TWO_STARTS,
+        ),
+        (
+            "session\nlook f 1 1 1\nf 1 1 1\nlook f 1 1 1\n",
+            0,
+            "session 1\nopen\n1 2\n1 2\n",
+            ONE_START,
+        ),
+        (
+            "session\nfind 2 1\nf 1 2 1\nwt 2 1\neps 1 2 2\n",
+            0,
+            "session 1\nabsent\nabsent\n1 1\n2\n",
+            ONE_START,
+        ),
+        (
+            "session\nsession\ne 1 1 1\nlook e 1 1 1\nfind 1 1\nadd 1 1\nphi 1 1 2\n",
+            0,
+            "session 1\nsession 2\nzero\nzero\nthere\nold\n1\n",
+            ONE_START,
+        ),
+        (
+            "cells 3\nsession\nadd 2 1\nadd 2 1\nf 1 1 1\nf 1 1 2\nfind 2 2\n",
+            3,
+            "session 1\nnew\nold\n1 2\nfull\nabsent\n",
+            "full\nend\n",
+        ),
+    ] {
+        let (ended, output) = ran(
+            alloc,
+            &["grow", "2"],
+            job_of_pairs(alloc, lines)?.as_slice(),
+        )?;
+        assert_eq!(rt; ended, status);
+        assert_eq!(rt;
+            output.as_slice(),
+            answer_of_pairs(alloc, replies, graph)?.as_slice()
+        );
     }
     Ok(())
 }
@@ -198,10 +274,6 @@ fn refused_jobs(rt: HostRuntime) -> Result<(), Fail> {
         ("type A 2\nsession\n", "refused job line 3 fault 4\n"),
         ("type A 2\n", "refused job line 3 fault 12\n"),
         (
-            "type A 2\nshape 1\nsession\nfind 1\n",
-            "refused job line 0 fault 15\n",
-        ),
-        (
             "type A 2\nshape 1\nreflect 1\n",
             "refused job line 0 fault 15\n",
         ),
@@ -246,8 +318,8 @@ fn faulty(alloc: Global, reads: &[u64], writes: &[u64]) -> Result<(u8, Vec<u8>),
     let input = job(alloc, "type A 2\nshape 2 1\ncells 8\n")?;
     let mut source = MemorySource::new(input, reads.to_vec(alloc)?, 4096);
     let mut sink = MemorySink::new(alloc, ROOM, writes.to_vec(alloc)?, 16)?;
-    let status = run(alloc, words.as_slice(), &mut source, &mut sink);
-    Ok((status, sink.bytes().to_vec(alloc)?))
+    let outcome = run(alloc, words.as_slice(), &mut source, &mut sink);
+    Ok((outcome.status, sink.bytes().to_vec(alloc)?))
 }
 
 #[test]

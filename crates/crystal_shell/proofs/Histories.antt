@@ -1,0 +1,85 @@
+-- Histories of jobs.
+use Rattle.std.proofs.Common.{◌≡◌, ◌≢◌, refl, sym, subst, ap, ◌∙◌, ℕ, ◌<◌, ◌==◌, not, true, false, cond, List, [], ◌∷◌, ◌++◌, length, map, get_or, All, Contains, append-nil, append_assoc}
+use Rattle.std.specs.List.{flat_map}
+use Rattle.std.proofs.lemmas.List.Elements.{All-map, Contains-append_left, Contains-get_or}
+use Rattle.tensor_words.specs.Worlds.{WorldType}
+use Rattle.graph_history.specs.declared.event.Event.{Event}
+use Rattle.graph_history.specs.History.{calls, others}
+use Rattle.graph_history.specs.Plain.{PlainValue}
+use Rattle.job_text.specs.declared.commands.Command.{Command}
+use Rattle.job_text.specs.declared.commands.Command.TheVariants.{Add}
+use Rattle.job_text.specs.declared.jobs.Job.{Job}
+use Rattle.job_text.specs.Jobs.{IsJob, added_codes}
+use Rattle.job_text.proofs.Ascending.{ascending_has}
+use Rattle.session_desk.specs.declared.reply.Reply.{Reply}
+use Rattle.session_desk.specs.Replies.{replies}
+use Rattle.session_desk.specs.Sessions.{IsAsked, Ran, AllRan, Continues}
+use Rattle.session_desk.proofs.Apart.{calls_others}
+use Rattle.crystal_shell.specs.Answers.{IsStarted, IsHistory}
+
+-- the starts are roots
+pub starts_are_roots : (j : Job) → IsJob j → All (Contains j.world.roots) j.starts
+starts_are_roots j is k d below =
+    subst (λ roots. Contains roots (get_or j.starts k d)) (sym is.roots)
+    (ascending_has (j.starts ++ flat_map added_codes j.scripts) (get_or j.starts k d)
+    (Contains-append_left j.starts (flat_map added_codes j.scripts) (get_or j.starts k d) (Contains-get_or j.starts k d below)))
+
+-- where there are no others, all events are the caller's
+all_own : (n : ℕ) (h : List Event) → others n h ≡ [] → calls h n ≡ h
+all_own n [] none = refl
+all_own n (e ∷ h) none =
+    elim (e.caller == n) as (λ b. cond (not b) (e ∷ others n h) (others n h) ≡ [] → cond b (e ∷ calls h n) (calls h n) ≡ e ∷ h) [
+      | true ↦ λ rest. ap (λ l. e ∷ l) (all_own n h rest)
+      | false ↦ λ clash. absurd (cc)
+    ] none
+
+-- the script of the starts ran on a desk without events
+pub started : (w : WorldType) (old new : List Event) (starts : List ℕ) (before after : List Reply) → old ≡ [] → others 0 new ≡ []
+    → Ran w 0 old new (map Add starts) before after → IsStarted w starts new
+started w old new starts before after fresh none ran =
+    let more : new ≡ ran.more = ran.is ∙ ap (λ (l : List Event). l ++ ran.more) fresh in
+    let own : calls new 0 ≡ new = all_own 0 new none in
+    let events : calls ran.more 0 ≡ new = ap (λ (l : List Event). calls l 0) (sym more) ∙ own in
+    record {
+      first = new;
+      rest = [];
+      is = sym (append-nil new);
+      own = own;
+      told = ran.told;
+      replied = ap (λ (l : List Event). replies w.space (map Add starts) l) (sym events) ∙ ran.replied;
+    }
+
+-- the starts stay in front
+pub started_on : (w : WorldType) (starts : List ℕ) (old new : List Event) → Continues old new → calls new 0 ≡ calls old 0 → IsStarted w starts old → IsStarted w starts new
+started_on w starts old new (more, grown) same before = record {
+  first = before.first;
+  rest = before.rest ++ more;
+  is = grown ∙ ap (λ (l : List Event). l ++ more) before.is ∙ append_assoc before.first before.rest more;
+  own = same ∙ before.own;
+  told = before.told;
+  replied = before.replied;
+}
+
+-- no other number has events where one caller has all
+pub none_of_others : (m n : ℕ) (h : List Event) → n ≢ m → others m h ≡ [] → calls h n ≡ []
+none_of_others m n h apart none = sym (calls_others h m n apart) ∙ ap (λ (l : List Event). calls l n) none
+
+-- a desk without events, on which one caller went on
+pub bond_none : (old new : PlainValue) (n : ℕ) → old.front ≡ [] → old.caller ≡ n → new.caller ≡ old.caller
+    → others new.caller new.front ≡ others old.caller old.front → others n new.front ≡ []
+bond_none old new n fresh caller same bond =
+    ap (λ (k : ℕ). others k new.front) (sym (same ∙ caller)) ∙ bond ∙ ap (λ (l : List Event). others old.caller l) fresh
+
+-- roots may be put in
+pub adds_asked : (w : WorldType) (starts : List ℕ) (script : List Command) → script ≡ map Add starts → All (Contains w.roots) starts → All (IsAsked w) script
+adds_asked w starts script is rooted = rw is (All-map (IsAsked w) Add starts rooted)
+
+pub history : (j : Job) (front : List Event) (told : List (List Reply)) → IsStarted j.world j.starts front
+    → ((n : ℕ) → length j.scripts < n → calls front n ≡ []) → AllRan j.world front j.scripts told → IsHistory j front told
+history j front told first alone ran = record {
+  legal = ran.legal;
+  started = first;
+  count = ran.count;
+  replied = ran.replied;
+  alone = alone;
+}
