@@ -21,7 +21,7 @@ use Rattle.tensor_words.specs.Operators.{IsArrow, op}
 use Rattle.tensor_words.specs.Worlds.{WorldType, IsWorld}
 use Rattle.tensor_words.specs.Reach.{IsPath, walk, IsReached, Outnumber}
 use Rattle.canonical_graph.specs.Graphs.{IsClosedList}
-use Rattle.canonical_graph.specs.Growth.{IsFollowed, IsNeighbour, Expands, HasRoots, IsFrontier, IsSortedFrom, IsGrown}
+use Rattle.canonical_graph.specs.Growth.{IsFollowed, IsNeighbour, Expands, HasRoots, IsFrontier, HasNexts, IsWhole, IsSortedFrom, IsGrown}
 use Rattle.canonical_graph.proofs.Expanding.{still_in, old_or_more}
 
 -- an element by its place
@@ -198,3 +198,17 @@ grown w n found codes world fr all distinct sorted = record {
 
         counted : (o : Outnumber w) → length o.codes ≤ length found
         counted o = length-le_from_is_member nat_eq_equiv o.codes found o.distinct (member o)
+
+pub whole : (w : WorldType) (n : ℕ) (found low high : List ℕ) → IsFrontier w n found → length found ≤ n → IsDistinct nat_eq found
+    → HasNexts w.space true found n low → HasNexts w.space false found n high → IsWhole w found low high
+whole w n found low high fr all distinct lowered raised =
+    let same : n ≡ length found = omega (arith, fr.within) in
+    record {
+      frontier = rw same at fr;
+      distinct = distinct;
+      lowered = rw same at lowered;
+      raised = rw same at raised;
+    }
+
+pub grown_whole : (w : WorldType) (found codes low high : List ℕ) → IsWorld w → IsWhole w found low high → IsSortedFrom found codes → IsGrown w codes
+grown_whole w found codes low high world whole sorted = grown w (length found) found codes world whole.frontier (omega arith) whole.distinct sorted

@@ -4,3 +4,4 @@ pub mod Rows
 pub mod Expanding
 pub mod Growing
 pub mod Spacing
+pub mod Noting

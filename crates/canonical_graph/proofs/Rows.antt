@@ -1,5 +1,5 @@
 -- The tables of arrows.
-use Rattle.std.proofs.Common.{◌≡◌, ◌∙◌, refl, ap, ℕ, ◌+◌, ◌-◌, ◌*◌, ◌<◌, ◌≤◌, inl, inr, Bool, true, false, if◌then◌else◌, List, [], ◌∷◌, ◌++◌, length, map, get_or, None, Some, append_assoc, arith}
+use Rattle.std.proofs.Common.{◌≡◌, ◌∙◌, refl, ap, ℕ, ◌+◌, ◌-◌, ◌*◌, ◌<◌, ◌≤◌, inl, inr, Bool, true, false, if◌then◌else◌, List, [], ◌∷◌, ◌++◌, length, map, get_or, Option, None, Some, is_some, append_assoc, arith}
 use Rattle.std.specs.List.{range_with_len, sum_by, count_by}
 use Rattle.std.proofs.Math.Nat.{mul-le-mul_right}
 use Rattle.std.proofs.lemmas.Bool.{cases_lt}
@@ -7,9 +7,10 @@ use Rattle.std.proofs.lemmas.List.{get_or_append_left, get_or-append_right, leng
 use Rattle.std.proofs.lemmas.List.FromFn.{length-map-range_with_len, get_or-map-range_with_len, map-range_with_len_more, sum_by-map-range_with_len_more}
 use Rattle.crystal_cartan.specs.Types.{HasIndex}
 use Rattle.crystal_cartan.specs.declared.types.Arrow.{Arrow}
-use Rattle.tensor_words.specs.Operators.{IsArrow}
-use Rattle.canonical_graph.specs.Graphs.{FinishedType, IsFinished, target_rank, arrows_from, arrow_count}
-use Rattle.canonical_graph.specs.Tables.{entry, entry_at, arrow_to, row, IsTable, IsKept}
+use Rattle.std.specs.Option.{option_and_then}
+use Rattle.tensor_words.specs.Operators.{IsArrow, op}
+use Rattle.canonical_graph.specs.Graphs.{FinishedType, IsFinished, code_at, rank_in, target_rank, lowering, arrows_from, arrow_count}
+use Rattle.canonical_graph.specs.Tables.{entry, entry_at, arrow_to, row, HasRows, IsTable, IsKept}
 use Rattle.canonical_graph.proofs.Ranks.{target_below}
 
 pub in_row : (rank n r j : ℕ) → rank < n → j < r → rank * r + j < n * r
@@ -17,38 +18,39 @@ in_row rank n r j low within =
     let rows : (rank + 1) * r ≤ n * r = mul-le-mul_right r (omega arith) in
     omega (arith, rows)
 
-pub no_rows : (f : FinishedType) (down : Bool) → IsTable f down 0 []
-no_rows f down = record { size = omega arith; rows = λ rank i low index. absurd (omega arith) }
+pub no_rows : {X : Type 0} (d : X) (at : ℕ → ℕ → X) (r : ℕ) → HasRows d at r 0 []
+no_rows d at r = record { size = omega arith; rows = λ k i below low high. absurd (omega arith) }
 
-pub more_rows : (f : FinishedType) (down : Bool) (n : ℕ) (xs new : List ℕ) → IsTable f down n xs
-    → new ≡ xs ++ row f n down f.space.cartan.rank → IsTable f down (n + 1) new
-more_rows f down n xs new t is = rw is (record { size = size; rows = rows })
+pub more_rows : {X : Type 0} (d : X) (at : ℕ → ℕ → X) (r n : ℕ) (xs new : List X) → HasRows d at r n xs → new ≡ xs ++ map (at n) (range_with_len 1 r)
+    → HasRows d at r (n + 1) new
+more_rows d at r n xs new t is = rw is (record { size = size; rows = rows })
   where
-    size : length (xs ++ row f n down f.space.cartan.rank) ≡ (n + 1) * f.space.cartan.rank
-    size = omega (arith, t.size, length-append xs (row f n down f.space.cartan.rank), length-map-range_with_len (λ i. entry_at f n down i) 1 f.space.cartan.rank)
+    size : length (xs ++ map (at n) (range_with_len 1 r)) ≡ (n + 1) * r
+    size = omega (arith, t.size, length-append xs (map (at n) (range_with_len 1 r)), length-map-range_with_len (at n) 1 r)
 
-    last : (i : ℕ) → HasIndex f.space.cartan i → get_or (xs ++ row f n down f.space.cartan.rank) (n * f.space.cartan.rank + (i - 1)) 0 ≡ entry_at f n down i
-    last i index =
-        let shift : n * f.space.cartan.rank + (i - 1) - n * f.space.cartan.rank ≡ i - 1 = omega arith in
-        let at = get_or-append_right xs (row f n down f.space.cartan.rank) (n * f.space.cartan.rank) (n * f.space.cartan.rank + (i - 1)) 0 t.size (omega arith) in
-        let here = get_or-map-range_with_len (λ i. entry_at f n down i) 1 f.space.cartan.rank (i - 1) i 0 (omega (arith, index.low, index.high)) (omega (arith, index.low)) in
-        rw shift at at ∙ here
+    last : (i : ℕ) → 1 ≤ i → i ≤ r → get_or (xs ++ map (at n) (range_with_len 1 r)) (n * r + (i - 1)) d ≡ at n i
+    last i low high =
+        let shift : n * r + (i - 1) - n * r ≡ i - 1 = omega arith in
+        let moved = get_or-append_right xs (map (at n) (range_with_len 1 r)) (n * r) (n * r + (i - 1)) d t.size (omega arith) in
+        let here = get_or-map-range_with_len (at n) 1 r (i - 1) i d (omega arith) (omega arith) in
+        rw shift at moved ∙ here
 
-    rows : (rank i : ℕ) → rank < n + 1 → HasIndex f.space.cartan i
-        → get_or (xs ++ row f n down f.space.cartan.rank) (rank * f.space.cartan.rank + (i - 1)) 0 ≡ entry_at f rank down i
-    rows rank i low index = elim (cases_lt rank n) [
+    rows : (k i : ℕ) → k < n + 1 → 1 ≤ i → i ≤ r → get_or (xs ++ map (at n) (range_with_len 1 r)) (k * r + (i - 1)) d ≡ at k i
+    rows k i below low high = elim (cases_lt k n) [
       | inl before ↦
-          let within : rank * f.space.cartan.rank + (i - 1) < length xs =
-          omega (arith, t.size, in_row rank n f.space.cartan.rank (i - 1) before (omega (arith, index.low, index.high))) in
-          get_or_append_left xs (row f n down f.space.cartan.rank) 0 (rank * f.space.cartan.rank + (i - 1)) within ∙ t.rows rank i before index
-      | inr after ↦ let same : rank ≡ n = omega arith in rw same (last i index)
+          let within : k * r + (i - 1) < length xs = omega (arith, t.size, in_row k n r (i - 1) before (omega arith)) in
+          get_or_append_left xs (map (at n) (range_with_len 1 r)) d (k * r + (i - 1)) within ∙ t.rows k i before low high
+      | inr after ↦ let same : k ≡ n = omega arith in rw same (last i low high)
     ]
 
+pub same_rows : {X : Type 0} (d : X) (at bt : ℕ → ℕ → X) (r n : ℕ) (xs : List X) → ((k i : ℕ) → k < n → at k i ≡ bt k i) → HasRows d at r n xs → HasRows d bt r n xs
+same_rows d at bt r n xs same t = record { size = t.size; rows = λ k i below low high. t.rows k i below low high ∙ same k i below }
+
 -- one more entry
-pub more_entries : (f : FinishedType) (rank : ℕ) (down : Bool) (n j : ℕ) (old xs new : List ℕ) → 1 + n ≡ j → xs ≡ old ++ row f rank down n
-    → new ≡ xs ++ entry_at f rank down j ∷ [] → new ≡ old ++ row f rank down (n + 1)
-more_entries f rank down n j old xs new index before is =
-    let more = map-range_with_len_more (λ i. entry_at f rank down i) 1 n j index in
+pub more_entries : {X : Type 0} (at : ℕ → X) (n j : ℕ) (old xs new : List X) → 1 + n ≡ j → xs ≡ old ++ map at (range_with_len 1 n)
+    → new ≡ xs ++ at j ∷ [] → new ≡ old ++ map at (range_with_len 1 (n + 1))
+more_entries at n j old xs new index before is =
+    let more = map-range_with_len_more at 1 n j index in
     rw (is, before, more) (simp append_assoc)
 
 map_same : (xs : List ℕ) → map (λ x. x) xs ≡ xs
@@ -79,8 +81,8 @@ entry_in f low high arrows rank a kept lt fits = by a.down a.index fits.index
   where
     by : (down : Bool) (i : ℕ) → HasIndex f.space.cartan i
         → get_or (if down then low else high) (rank * f.space.cartan.rank + (i - 1)) 0 ≡ entry (target_rank f rank (arrow_to down i))
-    by true i index = kept.lowered.rows rank i lt index
-    by false i index = kept.raised.rows rank i lt index
+    by true i index = kept.lowered.rows rank i lt index.low index.high
+    by false i index = kept.raised.rows rank i lt index.low index.high
 
 pub no_target : (f : FinishedType) (rank t : ℕ) (a : Arrow) → IsFinished f → t ≡ entry (target_rank f rank a) → t ≡ 4294967295 → None ≡ target_rank f rank a
 no_target f rank t a finished read last =
@@ -103,3 +105,23 @@ one_at_most false = omega arith
 pub entry_read : (f : FinishedType) (low high : List ℕ) (arrows rank t r : ℕ) (a : Arrow) → IsKept f low high arrows → rank < length f.codes
     → IsArrow f.space a → r ≡ f.space.cartan.rank → t ≡ get_or (if a.down then low else high) (rank * r + (a.index - 1)) 0 → t ≡ entry (target_rank f rank a)
 entry_read f low high arrows rank t r a kept lt fits width read = rw width at read ∙ entry_in f low high arrows rank a kept lt fits
+
+-- the target, from what the operator gives
+pub target_is : (f : FinishedType) (rank : ℕ) (a : Arrow) (o t : Option ℕ) → o ≡ op f.space a (code_at f rank) → t ≡ option_and_then (rank_in f.codes) o
+    → t ≡ target_rank f rank a
+unfolding target_rank
+target_is f rank a o t gives is = rw gives at is
+
+pub entry_on : (f : FinishedType) (rank : ℕ) (down : Bool) (n : ℕ) (t : Option ℕ) (old xs new : List ℕ) → t ≡ target_rank f rank (arrow_to down (n + 1))
+    → xs ≡ old ++ row f rank down n → new ≡ xs ++ entry t ∷ [] → new ≡ old ++ row f rank down (n + 1)
+entry_on f rank down n t old xs new leads before is =
+    more_entries (λ i. entry_at f rank down i) n (n + 1) old xs new (omega arith) before (is ∙ ap (λ t. xs ++ entry t ∷ []) leads)
+
+pub arrows_on : (f : FinishedType) (rank n : ℕ) (t : Option ℕ) (before total after : ℕ) → t ≡ target_rank f rank (arrow_to true (n + 1))
+    → total ≡ before + count_by (λ i. is_some (target_rank f rank (lowering i))) (range_with_len 1 n)
+    → after ≡ total + (if is_some t then 1 else 0)
+    → after ≡ before + count_by (λ i. is_some (target_rank f rank (lowering i))) (range_with_len 1 (n + 1))
+arrows_on f rank n t before total after leads so_far is =
+    let one = ap {B = ℕ} (λ t. if is_some t then 1 else 0) leads in
+    let counted = more_counted (λ i. is_some (target_rank f rank (lowering i))) n (n + 1) (omega arith) in
+    omega (arith, is, one, so_far, counted)

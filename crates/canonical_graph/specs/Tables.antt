@@ -1,8 +1,7 @@
 -- How a finished graph keeps its arrows: one table for lowering and one for raising, with a row for each vertex in
 -- ascending rank, and in it an entry for each index.
-use Rattle.std.specs.Prelude.{ℕ, ◌+◌, ◌-◌, ◌*◌, ◌<◌, ◌≡◌, Bool, true, false, List, map, length, slice_index, Option, Some, None}
+use Rattle.std.specs.Prelude.{ℕ, ◌+◌, ◌-◌, ◌*◌, ◌<◌, ◌≤◌, ◌≡◌, Bool, true, false, List, map, length, slice_index_or, Option, Some, None}
 use Rattle.std.specs.List.{range_with_len}
-use Rattle.crystal_cartan.specs.Types.{HasIndex}
 use Rattle.crystal_cartan.specs.declared.types.Arrow.{Arrow}
 use Rattle.canonical_graph.specs.Graphs.{FinishedType, IsFinished, target_rank, arrow_count}
 
@@ -22,11 +21,14 @@ entry_at f rank down i = entry (target_rank f rank (arrow_to down i))
 abbrev pub row : FinishedType → ℕ → Bool → ℕ → List ℕ
 row f rank down n = map (λ i. entry_at f rank down i) (range_with_len 1 n)
 
+-- the list has n rows of r entries; `at k i` is the entry of the row k, from 0, at the index i
+pub record HasRows {X : Type 0} (beyond : X) (at : ℕ → ℕ → X) (r n : ℕ) (entries : List X) : Type 0 where
+  pub size : length entries ≡ n * r
+  pub rows : (k i : ℕ) → k < n → 1 ≤ i → i ≤ r → slice_index_or entries (k * r + (i - 1)) beyond ≡ at k i
+
 -- the table of one direction has the rows of the first n vertices
-pub record IsTable (f : FinishedType) (down : Bool) (n : ℕ) (entries : List ℕ) : Type 0 where
-  pub size : length entries ≡ n * f.space.cartan.rank
-  pub rows : (rank i : ℕ) → rank < n → HasIndex f.space.cartan i
-      → slice_index entries (rank * f.space.cartan.rank + (i - 1)) ≡ entry_at f rank down i
+abbrev pub IsTable : FinishedType → Bool → ℕ → List ℕ → Type 0
+IsTable f down n entries = HasRows 0 (λ rank i. entry_at f rank down i) f.space.cartan.rank n entries
 
 -- what is kept of a finished graph beside its space and its codes
 pub record IsKept (f : FinishedType) (low high : List ℕ) (arrows : ℕ) : Type 0 where

@@ -5,6 +5,7 @@ ghost use Rattle.tensor_words.specs.Spaces.{IsSpace, size};
 ghost use Rattle.tensor_words.specs.Codes.{IsWord};
 ghost use Rattle.tensor_words.specs.Operators.{IsArrow};
 ghost use Rattle.canonical_graph.specs.Graphs.{IsFinished, IsClosedList, finished_graph, code_at, rank_in, target_rank, arrow_count};
+ghost use Rattle.canonical_graph.specs.Tables.{IsKept};
 ghost use Rattle.canonical_graph.specs.Texts.{vertex_word};
 
 use crate::tables::{NO_TARGET, Targets, rank_among, targets_of, word_with};
@@ -122,17 +123,25 @@ impl Finished {
     {
         word_with(&self.space, self.code_at(rank))
     }
+
+    /// The graph of these codes with its tables.
+    pub(crate) fn of_parts(space: Space, codes: Vec<u64>, targets: Targets) -> Finished
+        requires { IsKept (finished_graph space codes.items) targets.lowered.items targets.raised.items targets.arrows }
+        ensures { result ≡ finished_graph space codes.items }
+    {
+        Finished {
+            space,
+            codes,
+            targets,
+        }
+    }
 }
 
 /// The graph of these codes.
-pub(crate) fn finish(alloc: Global, space: Space, codes: Vec<u64>) -> Result<Finished, AllocError>
+fn finish(alloc: Global, space: Space, codes: Vec<u64>) -> Result<Finished, AllocError>
     requires { IsFinished (finished_graph space codes.items) }
     ensures { IfOk result (λ f. f ≡ finished_graph space codes.items) }
 {
     let targets = targets_of(alloc, &space, codes.as_slice())?;
-    Ok(Finished {
-        space,
-        codes,
-        targets,
-    })
+    Ok(Finished::of_parts(space, codes, targets))
 }

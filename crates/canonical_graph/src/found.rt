@@ -1,5 +1,5 @@
 //! The codes found so far by a growth.
-ghost use Rattle.std.specs.Prelude.{◌≡◌, ◌<◌, ◌≤◌, ℕ, [], length, slice_index, OnOk, nat_eq};
+ghost use Rattle.std.specs.Prelude.{◌≡◌, ◌+◌, ◌<◌, ◌≤◌, ℕ, [], length, slice_index, IfOk, OnOk, nat_eq, Contains};
 ghost use Rattle.std.specs.List.{IsDistinct};
 ghost use Rattle.canonical_graph.specs.Growth.{AddsCode};
 
@@ -50,11 +50,26 @@ impl Found {
         }
     }
 
-    /// Adds the code where it is not there yet.
-    pub(crate) fn add(&mut self, code: u64) -> Result<(), AllocError>
-        ensures { OnOk result (AddsCode self.old code self.new) }
+    /// Adds the code where it is not there yet, and gives its place.
+    pub(crate) fn add(&mut self, code: u64) -> Result<usize, AllocError>
+        ensures added { OnOk result (AddsCode self.old code self.new) }
+        ensures place { IfOk result (λ place. slice_index self.new place ≡ code) }
+        ensures within { IfOk result (λ place. place < length self.new) }
+        ensures few { OnOk result (length self.new ≤ length self.old + 1) }
     {
-        self.codes.insert(code)?;
-        Ok(())
+        let (place, _) = self.codes.insert_full(code)?;
+        Ok(place)
+    }
+
+    /// The place of a code that was found, counted from 0.
+    pub(crate) fn place_of(&self, code: u64) -> usize
+        requires { Contains self.now code }
+        ensures place { slice_index self.now result ≡ code }
+        ensures within { result < length self.now }
+    {
+        match self.codes.get_index_of(&code) {
+            Some(place) => place,
+            None => unreachable!(),
+        }
     }
 }

@@ -1,5 +1,5 @@
 //! Growth on one thread.
-ghost use Rattle.std.specs.Prelude.{◌≡◌, ℕ, ◌<◌, [], length, IfOk, OnOk, IsErrOf, MatchOption, nat_eq};
+ghost use Rattle.std.specs.Prelude.{◌≡◌, ℕ, ◌+◌, ◌^◌, ◌<◌, ◌≤◌, [], true, false, length, IfOk, OnOk, IsErrOf, MatchOption, nat_eq};
 ghost use Rattle.std.specs.List.{IsDistinct};
 ghost use Rattle.std.specs.Option.{option_map};
 ghost use Rattle.crystal_cartan.specs.Types.{HasIndex};
@@ -8,11 +8,12 @@ ghost use Rattle.tensor_words.specs.Codes.{IsWord, code_of, word_of};
 ghost use Rattle.tensor_words.specs.Operators.{IsArrow, acted, op};
 ghost use Rattle.tensor_words.specs.Worlds.{IsWorld};
 ghost use Rattle.tensor_words.specs.Reach.{IsComponentList, Outnumber};
-ghost use Rattle.canonical_graph.specs.Growth.{Follows, Expands, HasRoots, IsFrontier, IsSortedFrom, IsGrown};
+ghost use Rattle.canonical_graph.specs.Growth.{Follows, Expands, HasRoots, IsFrontier, IsWhole, IsSortedFrom, IsGrown, AreNotes, AddsNotes, IsNote, noted_in};
 
-use crate::finished::{Finished, finish};
+use crate::finished::Finished;
 use crate::found::Found;
-use crate::tables::word_with;
+use crate::nexts::{Growth, NO_PLACE, Nexts};
+use crate::tables::{targets_of_growth, word_with};
 use crystal_cartan::Arrow;
 use signature_rule::act;
 use std::alloc::{AllocError, Global};
@@ -34,8 +35,8 @@ pub fn grow_plain(alloc: Global, world: &World) -> Result<Finished, PlainFault>
     ensures fits { OnOk result (Outnumber world.now → ⊥) }
     ensures full { IsErrOf result PlainFault.Full → Outnumber world.now }
 {
-    match grown_codes(alloc, world) {
-        Ok(Some(codes)) => match finish(alloc, *world.space(), codes) {
+    match grown(alloc, world) {
+        Ok(Some(growth)) => match finished_growth(alloc, world, &growth) {
             Ok(graph) => Ok(graph),
             Err(_) => Err(PlainFault::NoMemory),
         },
@@ -44,12 +45,13 @@ pub fn grow_plain(alloc: Global, world: &World) -> Result<Finished, PlainFault>
     }
 }
 
-/// The codes of the reached words, ascending, `None` where they outnumber the cells.
-fn grown_codes(alloc: Global, world: &World) -> Result<Option<Vec<u64>>, AllocError>
-    ensures { IfOk result (λ grown. MatchOption grown (Outnumber world.now) (λ v. IsGrown world.now v.items)) }
+/// The growth from the roots, `None` where the reached words outnumber the cells.
+fn grown(alloc: Global, world: &World) -> Result<Option<Growth>, AllocError>
+    ensures { IfOk result (λ grown. MatchOption grown (Outnumber world.now) (λ g. IsWhole world.now g.found g.nexts.lowered.items g.nexts.raised.items)) }
 {
     let cells = world.cells() as usize;
     let mut found = Found::new(alloc);
+    let mut nexts = Nexts::new(alloc);
     add_roots(world, &mut found)?;
     let mut at = 0;
     'expanded: while at < found.len() {
@@ -57,11 +59,22 @@ fn grown_codes(alloc: Global, world: &World) -> Result<Option<Vec<u64>>, AllocEr
             return Ok(None);
         }
         let code = found.at(at);
-        expand(world.space(), code, &mut found)?;
+        expand(world.space(), code, &mut found, &mut nexts)?;
         at += 1;
     }
-    let codes = sorted(alloc, &found)?;
-    Ok(Some(codes))
+    Ok(Some(Growth { found, nexts }))
+}
+
+/// The graph of a growth.
+fn finished_growth(alloc: Global, world: &World, growth: &Growth) -> Result<Finished, AllocError>
+    requires { IsWhole world.now growth.now.found growth.now.nexts.lowered.items growth.now.nexts.raised.items }
+    ensures grown { IfOk result (λ f. IsGrown world.now f.codes) }
+    ensures space { IfOk result (λ f. f.space ≡ world.now.space) }
+{
+    let space = *world.space();
+    let codes = sorted(alloc, &growth.found)?;
+    let targets = targets_of_growth(alloc, &space, codes.as_slice(), growth)?;
+    Ok(Finished::of_parts(space, codes, targets))
 }
 
 fn add_roots(world: &World, found: &mut Found) -> Result<(), AllocError>
@@ -75,29 +88,42 @@ fn add_roots(world: &World, found: &mut Found) -> Result<(), AllocError>
     Ok(())
 }
 
-/// Adds what the operators make of the word with this code.
-fn expand(space: &Space, code: u64, found: &mut Found) -> Result<(), AllocError>
-    requires { code < size space.now }
-    ensures { OnOk result (Expands space.now space.now.cartan.rank code found.old found.new) }
+/// Adds what the operators make of the word with this code, and notes it.
+fn expand(space: &Space, code: u64, found: &mut Found, nexts: &mut Nexts) -> Result<(), AllocError>
+    requires code { code < size space.now }
+    requires few { length found.old ≤ 2 ^ 20 }
+    requires lowered { AreNotes found.old nexts.old.lowered.items }
+    requires raised { AreNotes found.old nexts.old.raised.items }
+    ensures expanded { OnOk result (Expands space.now space.now.cartan.rank code found.old found.new) }
+    ensures lowered { OnOk result (AddsNotes space.now true space.now.cartan.rank code found.old nexts.old.lowered.items found.new nexts.new.lowered.items) }
+    ensures raised { OnOk result (AddsNotes space.now false space.now.cartan.rank code found.old nexts.old.raised.items found.new nexts.new.raised.items) }
 {
     let word = word_with(space, code);
     'indices: for place in 0..space.cartan().rank() {
         let index = place + 1;
-        follow(space, &word, Arrow { down: true, index }, found)?;
-        follow(space, &word, Arrow { down: false, index }, found)?;
+        let lowered = follow(space, &word, Arrow { down: true, index }, found)?;
+        let raised = follow(space, &word, Arrow { down: false, index }, found)?;
+        nexts.push(lowered, raised)?;
     }
     Ok(())
 }
 
-/// Adds the code of what an operator makes of a word.
-fn follow(space: &Space, word: &Word, arrow: Arrow, found: &mut Found) -> Result<(), AllocError>
+/// Adds the code of what an operator makes of a word, and gives its note.
+fn follow(space: &Space, word: &Word, arrow: Arrow, found: &mut Found) -> Result<u32, AllocError>
     requires word { IsWord space.now word.now }
     requires arrow { IsArrow space.now arrow }
-    ensures { OnOk result (Follows space.now (option_map (code_of space.now) (acted space.now arrow word.now)) found.old found.new) }
+    requires room { length found.old ≤ 2 ^ 21 }
+    ensures follows { OnOk result (Follows space.now (option_map (code_of space.now) (acted space.now arrow word.now)) found.old found.new) }
+    ensures note { IfOk result (λ note. noted_in found.new note ≡ option_map (code_of space.now) (acted space.now arrow word.now)) }
+    ensures placed { IfOk result (λ note. IsNote (length found.new) note) }
+    ensures few { OnOk result (length found.new ≤ length found.old + 1) }
 {
     match act(space, word, arrow) {
-        Some(next) => found.add(space.code_of(&next)),
-        None => Ok(()),
+        Some(next) => {
+            let place = found.add(space.code_of(&next))?;
+            Ok(place as u32)
+        }
+        None => Ok(NO_PLACE),
     }
 }
 

@@ -8,6 +8,7 @@ mod finished;
 mod found;
 mod growth;
 mod lines;
+mod nexts;
 mod tables;
 #[cfg(test)]
 mod tests;

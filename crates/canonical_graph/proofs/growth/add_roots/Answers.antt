@@ -7,7 +7,7 @@ roots-preserved c = record {
   have =
       more_roots c.args.world.now.roots c.roots.found c.add.new.self c.roots.k c.at.result
       (omega (arith, c.roots-test.true, c.roots.invariant.last))
-      (c.at.ensures ∙ ap (λ (xs : List ℕ). get_or xs c.roots.k 0) c.roots.invariant.same) c.roots.invariant.have c.in_ok-add.ensures;
+      (c.at.ensures ∙ ap (λ (xs : List ℕ). get_or xs c.roots.k 0) c.roots.invariant.same) c.roots.invariant.have c.in_ok-add.ensures.added;
   same = c.roots.invariant.same;
   last = c.roots.invariant.last;
 }

@@ -1,5 +1,6 @@
 use Rattle.std.proofs.Common.{true, false, arith}
 use Rattle.canonical_graph.specs.Graphs.{finished_graph}
+use Rattle.canonical_graph.specs.Tables.{entry_at}
 use Rattle.canonical_graph.proofs.Rows.{more_rows, more_arrows, all_kept}
 use Rattle.canonical_graph.proofs.tables.targets_of.Goals as goal
 
@@ -10,8 +11,8 @@ ranks-preserved c =
     let done = c.in_ok-push_row.ensures in
     let kept = c.ranks.invariant in
     record {
-      lowered = more_rows f true n _ _ kept.lowered done.lowered;
-      raised = more_rows f false n _ _ kept.raised done.raised;
+      lowered = more_rows 0 (λ rank i. entry_at f rank true i) c.args.space.now.cartan.rank n _ _ kept.lowered done.lowered;
+      raised = more_rows 0 (λ rank i. entry_at f rank false i) c.args.space.now.cartan.rank n _ _ kept.raised done.raised;
       arrows = omega (arith, done.arrows, more_arrows f n, kept.arrows);
       few = omega (arith, done.few, kept.few);
       last = kept.last;

@@ -1,0 +1,4 @@
+pub mod WordBounds
+pub mod ShapeWeights
+pub mod OneAnswer
+pub mod OverCodes

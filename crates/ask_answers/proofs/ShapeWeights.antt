@@ -1,0 +1,92 @@
+-- What the weight of a shape gives to the tops beside it: whole pairings that are not negative, and small sums.
+use Rattle.std.proofs.Common.{◌≡◌, subst, ℕ, ◌*◌, ◌≤◌, ◌<◌, List, [], ◌∷◌, length, map, replicate, get_or, ℤ, pos, ◌≤ℤ◌, All, arith}
+use Rattle.std.specs.List.{range_with_len}
+use Rattle.std.proofs.lemmas.Int.{ints}
+use Rattle.std.proofs.lemmas.List.Elements.{All-map, All-filter}
+use Rattle.std.proofs.lemmas.List.FromFn.{length-range_with_len, get_or-range_with_len}
+use Rattle.crystal_cartan.specs.Types.{CartanType, HasIndex, coordinates, coordinates_of}
+use Rattle.crystal_cartan.specs.declared.types.Kind.{Kind}
+use Rattle.crystal_cartan.specs.declared.types.Kind.TheVariants.{A, B, C, D}
+use Rattle.crystal_cartan.specs.Weights.{twice_pairing, IsPairing, IsDominant, IsSmall, sum_of}
+use Rattle.vector_crystals.specs.Letters.{letter_count_of}
+use Rattle.tensor_words.specs.declared.spaces.Factor.TheVariants.{Vector}
+use Rattle.tensor_words.specs.Spaces.{IsSpace, IsWithin, base_size, word_weight}
+use Rattle.tensor_words.specs.Codes.{AreDigits, IsWord}
+use Rattle.tensor_words.specs.TensorRule.{action}
+use Rattle.tensor_words.proofs.Sums.{small_within}
+use Rattle.tensor_words.proofs.KeptWords.{factors_of_space}
+use Rattle.tensor_words.proofs.WordWeights.{seminormal_word}
+use Rattle.tableau_reading.specs.Shapes.{ShapeType, IsShape, shape_space, shape_weight}
+use Rattle.tableau_reading.specs.Readings.{Box, boxes, width, top_word}
+use Rattle.tableau_reading.proofs.VectorSpaces.{shape_is_space}
+use Rattle.tableau_reading.proofs.HighestTops.{AreSteps, top_steps, length-top, top_is_highest}
+use Rattle.tableau_reading.proofs.TopWeights.{top_has_weight}
+use Rattle.canonical_graph.specs.Graphs.{FinishedType, IsFinished}
+use Rattle.canonical_graph.specs.Texts.{vertex_word}
+use Rattle.crystal_subsets.specs.ProductTops.{is_top_beside, top_entry, top_ranks, tops_beside}
+use Rattle.crystal_subsets.proofs.TensorTops.{word_pairings}
+use Rattle.ask_answers.proofs.WordBounds.{bounded_sum, bounded_word}
+
+letters_enough : (k : Kind) (r : ℕ) → coordinates_of k r ≤ letter_count_of k r
+letters_enough A r = omega arith
+letters_enough B r = omega arith
+letters_enough C r = omega arith
+letters_enough D r = omega arith
+
+steps_are_digits : (t : CartanType) (ds : List ℕ) → AreSteps (coordinates t) ds → AreDigits (map (base_size t) (replicate (length ds) Vector)) ds
+unfolding base_size
+steps_are_digits t [] steps = tt
+steps_are_digits t (d ∷ ds) steps = (omega (arith, steps.0, letters_enough t.kind t.rank), steps_are_digits t ds steps.2)
+
+-- the top word of a shape is a word of its space
+top_is_word : (s : ShapeType) → IsShape s → IsWord (shape_space s) (top_word s)
+unfolding top_word
+top_is_word s h =
+    let digits = steps_are_digits s.cartan (map (λ (b : Box). b.row) (boxes s.rows)) (top_steps s.rows (coordinates s.cartan) (width s.rows) h.low) in
+    rw (length-top s h) at digits
+
+-- the weight of a shape has whole pairings
+pub shape_pairings : (s : ShapeType) → IsShape s → (i : ℕ) → HasIndex s.cartan i → (p : ℤ) × IsPairing s.cartan (shape_weight s) i p
+shape_pairings s h i index =
+    subst (λ (w : List ℤ). (p : ℤ) × IsPairing s.cartan w i p) (top_has_weight s h)
+    (word_pairings (shape_space s) (top_word s) (shape_is_space s h) (top_is_word s h) i index)
+
+-- and is dominant: no raising operator applies to the top word
+pub shape_dominant : (s : ShapeType) → IsShape s → IsDominant s.cartan (shape_weight s)
+shape_dominant s h i index =
+    let ends : (action (shape_space s) i).eps (top_word s) ≡ 0 = top_is_highest s i h index in
+    let balanced = (seminormal_word (shape_space s) i (top_word s) (factors_of_space (shape_space s) (shape_is_space s h)) index (top_is_word s h)).balanced in
+    subst (λ (w : List ℤ). pos 0 ≤ℤ twice_pairing s.cartan w i) (top_has_weight s h) (omega (arith, ints, ends, balanced))
+
+-- doubled coordinates of the weight of a word of at most 40 factors, and of a shape, are at most 80
+at_most_eighty : (n : ℕ) (w : List ℤ) → n ≤ 40 → All (IsWithin (2 * n)) w → All (IsWithin 80) w
+at_most_eighty n w few all = λ k d lt. let x : IsWithin (2 * n) (get_or w k d) = all k d lt in
+    (omega (arith, ints, x.0), omega (arith, ints, x.1))
+
+bounded_shape : (s : ShapeType) → IsShape s → All (IsWithin 80) (shape_weight s)
+bounded_shape s h =
+    let space : IsSpace (shape_space s) = shape_is_space s h in
+    subst (λ (w : List ℤ). All (IsWithin 80) w) (top_has_weight s h)
+    (at_most_eighty (length (shape_space s).factors) (word_weight (shape_space s) (top_word s)) space.few (bounded_word (shape_space s) (top_word s)))
+
+small_sum : (f : FinishedType) (s : ShapeType) (rank : ℕ) → IsFinished f → IsShape s → IsSmall (top_entry f (shape_weight s) rank).1
+small_sum f s rank finished h =
+    let own : All (IsWithin 80) (word_weight f.space (vertex_word f rank)) =
+    at_most_eighty (length f.space.factors) _ finished.space.few (bounded_word f.space (vertex_word f rank)) in
+    small_within 160 (sum_of (word_weight f.space (vertex_word f rank)) (shape_weight s)) (omega arith)
+    (bounded_sum 80 80 (word_weight f.space (vertex_word f rank)) (shape_weight s) own (bounded_shape s h))
+
+-- the sums that go with the tops beside it are small
+pub small_sums : (f : FinishedType) (s : ShapeType) → IsFinished f → IsShape s → All (λ top. IsSmall top.1) (tops_beside f (shape_weight s))
+small_sums f s finished h =
+    All-map (λ (top : ℕ × List ℤ). IsSmall top.1) (top_entry f (shape_weight s)) (top_ranks f (shape_weight s))
+    (λ k d lt. small_sum f s _ finished h)
+
+-- and their ranks are those of vertices
+pub ranks_below : (f : FinishedType) (weight : List ℤ) → All (λ top. top.0 < length f.codes) (tops_beside f weight)
+ranks_below f weight =
+    let all : All (λ rank. rank < length f.codes) (range_with_len 0 (length f.codes)) = λ k d lt.
+    let within : k < length f.codes = omega (arith, length-range_with_len 0 (length f.codes)) in
+    omega (arith, get_or-range_with_len 0 (length f.codes) k d within) in
+    All-map (λ (top : ℕ × List ℤ). top.0 < length f.codes) (top_entry f weight) (top_ranks f weight)
+    (All-filter (λ rank. is_top_beside f.space weight (vertex_word f rank)) (λ rank. rank < length f.codes) (range_with_len 0 (length f.codes)) all)

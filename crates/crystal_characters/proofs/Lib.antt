@@ -1,0 +1,15 @@
+pub mod Strings
+pub mod Reflecting
+pub mod Mirrors
+pub mod Matched
+pub mod Multiplicities
+pub mod WeightOrder
+pub mod Tallying
+pub mod Counted
+pub mod Sorted
+pub mod Lines
+pub mod Ends
+pub mod Characters
+pub mod Padding
+pub mod ItemLists
+pub mod Worked

@@ -1,0 +1,4 @@
+pub mod Characters
+pub mod Reflections
+pub mod Items
+pub mod Reports
