@@ -1,7 +1,8 @@
 -- Histories of jobs.
-use Rattle.std.proofs.Common.{◌≡◌, ◌≢◌, refl, sym, subst, ap, ◌∙◌, ℕ, ◌<◌, ◌==◌, not, true, false, cond, List, [], ◌∷◌, ◌++◌, length, map, get_or, All, Contains, append-nil, append_assoc}
+use Rattle.std.proofs.Common.{arith, ◌≡◌, ◌≢◌, refl, sym, subst, ap, ◌∙◌, ℕ, ◌<◌, ◌==◌, not, true, false, cond, List, [], ◌∷◌, ◌++◌, length, map, get_or, slice_index, All, Contains, append-nil, append_assoc}
 use Rattle.std.specs.List.{flat_map}
 use Rattle.std.proofs.lemmas.List.Elements.{All-map, Contains-append_left, Contains-get_or}
+use Rattle.tensor_words.specs.Reach.{IsComponentList, walk}
 use Rattle.tensor_words.specs.Worlds.{WorldType}
 use Rattle.graph_history.specs.declared.event.Event.{Event}
 use Rattle.graph_history.specs.History.{calls, others}
@@ -23,6 +24,18 @@ starts_are_roots j is k d below =
     subst (λ roots. Contains roots (get_or j.starts k d)) (sym is.roots)
     (ascending_has (j.starts ++ flat_map added_codes j.scripts) (get_or j.starts k d)
     (Contains-append_left j.starts (flat_map added_codes j.scripts) (get_or j.starts k d) (Contains-get_or j.starts k d below)))
+
+-- the first start is a vertex
+pub start_listed : (j : Job) (codes : List ℕ) (x : ℕ) → IsJob j → IsComponentList j.world codes → x ≡ slice_index j.starts 0 → Contains codes x
+unfolding walk
+start_listed j codes x is list first =
+    list.complete x (record {
+      root = x;
+      rooted = subst (λ (c : ℕ). Contains j.world.roots c) (sym first) (starts_are_roots j is 0 0 (omega (arith, is.started)));
+      path = [];
+      arrows = tt;
+      leads = refl;
+    })
 
 -- where there are no others, all events are the caller's
 all_own : (n : ℕ) (h : List Event) → others n h ≡ [] → calls h n ≡ h

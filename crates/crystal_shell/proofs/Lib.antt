@@ -1,4 +1,7 @@
 pub mod Calls
+pub mod Determined
+pub mod Inputs
 pub mod Histories
+pub mod Parts
 pub mod Results
 pub mod Words

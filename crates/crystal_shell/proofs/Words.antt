@@ -1,54 +1,57 @@
 -- What command words call for.
-use Rattle.std.proofs.Common.{◌≡◌, ℕ, List, [], Option, Some, None, IfSome, Result, Ok, Err, IfOk, inl, inr, refl, sym, ap, subst, ◌∙◌}
+use Rattle.std.proofs.Common.{◌≡◌, ℕ, List, [], Option, Some, None, IfSome, Result, Ok, Err, inl, inr, refl, sym, ap, subst, ◌∙◌}
+use Rattle.graph_history.specs.declared.event.Event.{Event}
 use Rattle.command_words.specs.Judge.{judge_words, IsAnswer}
 use Rattle.command_words.specs.Fault.{fault_number}
 use Rattle.command_words.specs.declared.fault.WordsFault.{WordsFault}
 use Rattle.command_words.specs.declared.fault.WordsFault.TheVariants.{NoMemory}
 use Rattle.command_words.specs.declared.settings.Settings.{Settings}
-use Rattle.command_words.specs.declared.settings.Settings.TheVariants.{Sample}
+use Rattle.command_words.specs.declared.settings.Settings.TheVariants.{Grow, Sample}
 use Rattle.answer_text.specs.Texts.{words_refusal}
-use Rattle.graph_history.specs.declared.event.Event.{Event}
-use Rattle.crystal_shell.specs.declared.answer.Answer.{Answer}
-use Rattle.crystal_shell.specs.declared.answer.Stop.{Stop}
-use Rattle.crystal_shell.specs.Answers.{Calls, RefusesWords, Hears, Names, faulty, sample, words_refused, called}
+use Rattle.crystal_shell.specs.Statistics.{Kind, names_of}
+use Rattle.crystal_shell.specs.declared.answer.Heard.{Heard}
+use Rattle.crystal_shell.specs.declared.answer.Heard.TheVariants.{Chosen, Refused}
+use Rattle.crystal_shell.specs.Answers.{RefusesWords, Chooses, Hears, Names, faulty, sample, words_refused}
 
-pub refused_by_number : (words : List (List ℕ)) (fault : WordsFault) (k : ℕ) → fault_number fault ≡ Some k
-    → IsAnswer (judge_words words []) (Err fault) → RefusesWords words (words_refusal k)
-refused_by_number words fault k number (inl told) = faulty fault k (sym told) number
-refused_by_number words fault k number (inr short) =
+pub refused_by_number : (words names : List (List ℕ)) (fault : WordsFault) (k : ℕ) → fault_number fault ≡ Some k
+    → IsAnswer (judge_words words names) (Err fault) → RefusesWords words names (words_refusal k)
+refused_by_number words names fault k number (inl told) = faulty fault k (sym told) number
+refused_by_number words names fault k number (inr short) =
     let gone : fault ≡ NoMemory = cc in
     let clash : Some k ≡ None = sym number ∙ ap fault_number gone in
     cc
 
-pub names_refusal : (words : List (List ℕ)) (left : Option (List ℕ)) (fault : Option ℕ) (k s : ℕ) (f : List Event) (x : List ℕ)
-    → fault ≡ Some k → Hears words fault → s ≡ 1 → f ≡ [] → x ≡ words_refusal k → IfSome left (λ input. Names words input s f x)
-names_refusal words None fault k s f x is heard status front text = tt
-names_refusal words (Some input) fault k s f x is heard status front text =
-    let named : Names words input 1 [] (words_refusal k) = words_refused (words_refusal k) (subst (Hears words) is heard) in
-    subst (λ (n : ℕ). Names words input n f x) (sym status)
-    (subst (λ (h : List Event). Names words input 1 h x) (sym front) (subst (λ (z : List ℕ). Names words input 1 [] z) (sym text) named))
+-- what was heard
+pub heard_refusal : (words names : List (List ℕ)) (heard : Heard) (k : ℕ) → heard ≡ Refused k → Hears words names heard → RefusesWords words names (words_refusal k)
+heard_refusal words names heard k is hears = subst (Hears words names) is hears
 
-pub names_call : (words : List (List ℕ)) (left : Option (List ℕ)) (fault : Option ℕ) (r : Result Answer Stop) → fault ≡ None → Hears words fault
-    → IfOk r (λ answer. IfSome left (λ input. Calls input answer.status answer.front answer.text.items))
-    → IfOk r (λ answer. IfSome left (λ input. Names words input answer.status answer.front answer.text.items))
-names_call words left fault (Err stop) is heard calls = tt
-names_call words None fault (Ok answer) is heard calls = tt
-names_call words (Some input) fault (Ok answer) is heard calls =
-    called answer.status answer.front answer.text.items (subst (Hears words) is heard) calls
+pub heard_choice : (words names : List (List ℕ)) (heard : Heard) (places : List ℕ) → heard ≡ Chosen places → Hears words names heard → Chooses words names places
+heard_choice words names heard places is hears = subst (Hears words names) is hears
 
--- the refusal that was heard, and there is but one
-pub heard_refusal : (words : List (List ℕ)) (fault : Option ℕ) (k : ℕ) → fault ≡ Some k → Hears words fault → RefusesWords words (words_refusal k)
-heard_refusal words fault k is heard = subst (Hears words) is heard
+pub names_refusal : (kinds : List Kind) (words : List (List ℕ)) (left : Option (List ℕ)) (k s : ℕ) (f : List Event) (x : List ℕ)
+    → RefusesWords words (names_of kinds) (words_refusal k) → s ≡ 1 → f ≡ [] → x ≡ words_refusal k → IfSome left (λ input. Names kinds words input s f x)
+names_refusal kinds words None k s f x refused status front text = tt
+names_refusal kinds words (Some input) k s f x refused status front text =
+    let named : Names kinds words input 1 [] (words_refusal k) = words_refused (words_refusal k) refused in
+    subst (λ (n : ℕ). Names kinds words input n f x) (sym status)
+    (subst (λ (h : List Event). Names kinds words input 1 h x) (sym front) (subst (λ (z : List ℕ). Names kinds words input 1 [] z) (sym text) named))
 
-pub refuses_once : (words : List (List ℕ)) (s t : List ℕ) → RefusesWords words s → RefusesWords words t → s ≡ t
-refuses_once words s t (faulty f k judged number) (faulty g j judged' number') =
+-- command words are refused for one reason, and not accepted besides
+pub refuses_once : (words names : List (List ℕ)) (s t : List ℕ) → RefusesWords words names s → RefusesWords words names t → s ≡ t
+refuses_once words names s t (faulty f k judged number) (faulty g j judged' number') =
     let fault : ◌≡◌ {A = Result Settings WordsFault} (Err f) (Err g) = sym judged ∙ judged' in
     let same : f ≡ g = cc in
     let numbers : Some k ≡ Some j = sym number ∙ ap fault_number same ∙ number' in
     let equal : k ≡ j = cc in
     ap words_refusal equal
-refuses_once words s t (faulty f k judged number) (sample growers n judged') =
+refuses_once words names s t (faulty f k judged number) (sample growers n judged') =
     let clash : ◌≡◌ {A = Result Settings WordsFault} (Err f) (Ok (Sample growers n)) = sym judged ∙ judged' in cc
-refuses_once words s t (sample growers n judged') (faulty f k judged number) =
+refuses_once words names s t (sample growers n judged') (faulty f k judged number) =
     let clash : ◌≡◌ {A = Result Settings WordsFault} (Err f) (Ok (Sample growers n)) = sym judged ∙ judged' in cc
-refuses_once words s t (sample growers n judged) (sample growers' n' judged') = refl
+refuses_once words names s t (sample growers n judged) (sample growers' n' judged') = refl
+
+pub not_both : (words names : List (List ℕ)) (places text : List ℕ) → Chooses words names places → RefusesWords words names text → ⊥
+not_both words names places text chosen (faulty f k judged number) =
+    let clash : ◌≡◌ {A = Result Settings WordsFault} (Err f) (Ok (Grow chosen.growers places)) = sym judged ∙ chosen.judged in absurd (cc)
+not_both words names places text chosen (sample growers n judged) =
+    let clash : ◌≡◌ {A = Result Settings WordsFault} (Ok (Sample growers n)) (Ok (Grow chosen.growers places)) = sym judged ∙ chosen.judged in absurd (cc)

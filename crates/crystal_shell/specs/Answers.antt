@@ -1,6 +1,7 @@
 -- What the command words and the input call for.
-use Rattle.std.specs.Prelude.{ℕ, ◌+◌, ◌<◌, ◌≤◌, ◌≡◌, List, [], ◌++◌, length, map, slice_index_or, Option, Some, None, IfSome, Ok, Err}
+use Rattle.std.specs.Prelude.{ℕ, ◌+◌, ◌<◌, ◌≤◌, ◌≡◌, List, [], ◌++◌, length, map, slice_index, slice_index_or, nat_eq, Option, Some, IfSome, Ok, Err}
 use Rattle.std.specs.Io.KnownBytes.{IsAtEnd}
+use Rattle.std.specs.List.{IsDistinct}
 use Rattle.crystal_streams.specs.Reads.{TakesExactly}
 use Rattle.tensor_words.specs.Reach.{IsComponentList, Outnumber}
 use Rattle.tensor_words.specs.Worlds.{WorldType}
@@ -17,18 +18,16 @@ use Rattle.job_text.specs.declared.jobs.Job.{Job}
 use Rattle.job_text.specs.Judge.{judge}
 use Rattle.session_desk.specs.declared.reply.Reply.{Reply}
 use Rattle.session_desk.specs.Replies.{replies}
+use Rattle.crystal_characters.specs.Items.{items_of}
+use Rattle.ask_answers.specs.Answers.{AreAnswers}
 use Rattle.answer_text.specs.Texts.{ended, head_line, sessions_text, graph_part, full_line, end_line, words_refusal, job_refusal}
+use Rattle.crystal_shell.specs.Statistics.{Kind, names_of, statistics_text}
+use Rattle.crystal_shell.specs.declared.answer.Heard.{Heard}
+use Rattle.crystal_shell.specs.declared.answer.Heard.TheVariants.{Chosen, Refused}
 
 -- the most bytes of a job
 abbrev pub job_limit : ℕ
 job_limit = 1048576
-
--- asks are not served yet
-abbrev pub IsServed : Job → Type 0
-IsServed job = job.asks ≡ []
-
-abbrev pub IsNotServed : Job → Type 0
-IsNotServed job = 0 < length job.asks
 
 -- the history begins with the starts in order, put in under the number 0 as by `add` commands, and this number has no
 -- other events
@@ -50,46 +49,61 @@ pub record IsHistory (job : Job) (front : List Event) (told : List (List Reply))
       replies job.world.space (slice_index_or job.scripts k []) (calls front (k + 1)) ≡ Some (slice_index_or told k [])
   pub alone : (n : ℕ) → length job.scripts < n → calls front n ≡ []
 
--- the text of a job with these replies whose graph is finished
-abbrev pub whole_text : FinishedType → List (List Reply) → List ℕ
-whole_text f told = ended (head_line f.space.cartan) ++ sessions_text f.space told ++ graph_part f ++ ended end_line
+-- the text of a job with these replies whose graph is finished, from the parts of the statistics and the answers to the
+-- asks
+abbrev pub whole_text : FinishedType → List (List Reply) → List ℕ → List ℕ → List ℕ
+whole_text f told parts answers =
+    ended (head_line f.space.cartan) ++ sessions_text f.space told ++ graph_part f ++ parts ++ answers ++ ended end_line
 
 -- the same where more words are reached than there are cells
 abbrev pub full_text : WorldType → List (List Reply) → List ℕ
 full_text w told = ended (head_line w.space.cartan) ++ sessions_text w.space told ++ ended full_line ++ ended end_line
 
--- the status, the history and the text that an input calls for under `grow`
-pub data Calls (input : List ℕ) : ℕ → List Event → List ℕ → Type 0 where
-  too_long : job_limit < length input → Calls input 2 [] (job_refusal 0 14)
+-- the finished graph of a job, from its component list
+abbrev pub graph_of : Job → List ℕ → FinishedType
+graph_of job list = finished_graph job.world.space list
+
+-- the status, the history and the text that an input calls for under `grow`, where the statistics at these places are
+-- chosen
+pub data Calls (kinds : List Kind) (places : List ℕ) (input : List ℕ) : ℕ → List Event → List ℕ → Type 0 where
+  too_long : job_limit < length input → Calls kinds places input 2 [] (job_refusal 0 14)
   refused : (r : Refusal) → length input ≤ job_limit → judge input ≡ Err r
-      → Calls input 2 [] (job_refusal r.line (why_number r.why))
-  not_served : (job : Job) → length input ≤ job_limit → judge input ≡ Ok job → IsNotServed job
-      → Calls input 2 [] (job_refusal 0 15)
-  whole : (job : Job) (list : List ℕ) (front : List Event) (told : List (List Reply)) → length input ≤ job_limit
-      → judge input ≡ Ok job → IsServed job → IsHistory job front told
+      → Calls kinds places input 2 [] (job_refusal r.line (why_number r.why))
+  whole : (job : Job) (list : List ℕ) (front : List Event) (told : List (List Reply)) (answers : List ℕ) → length input ≤ job_limit
+      → judge input ≡ Ok job → IsHistory job front told
       → IsComponentList job.world list → (Outnumber job.world → ⊥)
-      → Calls input 0 front (whole_text (finished_graph job.world.space list) told)
+      → AreAnswers (graph_of job list) (slice_index job.starts 0) job.asks answers
+      → Calls kinds places input 0 front
+      (whole_text (graph_of job list) told (statistics_text kinds places (items_of (graph_of job list))) answers)
   full : (job : Job) (front : List Event) (told : List (List Reply)) → length input ≤ job_limit
-      → judge input ≡ Ok job → IsServed job → IsHistory job front told
-      → Outnumber job.world → Calls input 3 front (full_text job.world told)
+      → judge input ≡ Ok job → IsHistory job front told
+      → Outnumber job.world → Calls kinds places input 3 front (full_text job.world told)
 
 -- the text that refused command words call for: their first fault, or 8 for a mode that is not served yet
-pub data RefusesWords (words : List (List ℕ)) : List ℕ → Type 0 where
-  faulty : (fault : WordsFault) (k : ℕ) → judge_words words [] ≡ Err fault → fault_number fault ≡ Some k
-      → RefusesWords words (words_refusal k)
-  sample : (growers number : ℕ) → judge_words words [] ≡ Ok (Sample growers number)
-      → RefusesWords words (words_refusal 8)
+pub data RefusesWords (words names : List (List ℕ)) : List ℕ → Type 0 where
+  faulty : (fault : WordsFault) (k : ℕ) → judge_words words names ≡ Err fault → fault_number fault ≡ Some k
+      → RefusesWords words names (words_refusal k)
+  sample : (growers number : ℕ) → judge_words words names ≡ Ok (Sample growers number)
+      → RefusesWords words names (words_refusal 8)
 
--- the command words are accepted: they ask for growth
-pub record AcceptsWords (words : List (List ℕ)) : Type 0 where
+-- the command words ask for growth, and choose the statistics at these places
+pub record Chooses (words names : List (List ℕ)) (places : List ℕ) : Type 0 where
   pub growers : ℕ
-  pub places : List ℕ
-  pub judged : judge_words words [] ≡ Ok (Grow growers places)
+  pub judged : judge_words words names ≡ Ok (Grow growers places)
 
--- the number for which command words are refused, or none where they are accepted
-abbrev pub Hears : List (List ℕ) → Option ℕ → Type 0
-Hears words None = AcceptsWords words
-Hears words (Some fault) = RefusesWords words (words_refusal fault)
+-- the command words are accepted
+abbrev pub AcceptsWords : List (List ℕ) → List (List ℕ) → Type 0
+AcceptsWords words names = (places : List ℕ) × Chooses words names places
+
+-- what was heard of the command words
+abbrev pub Hears : List (List ℕ) → List (List ℕ) → Heard → Type 0
+Hears words names (Chosen places) = Chooses words names places
+Hears words names (Refused fault) = RefusesWords words names (words_refusal fault)
+
+-- the places are different ones of so many statistics
+abbrev pub FitsPlaces : ℕ → Heard → Type 0
+FitsPlaces count (Chosen places) = IsDistinct nat_eq places × ((k : ℕ) → k < length places → slice_index places k < count)
+FitsPlaces count (Refused fault) = Unit {0}
 
 -- the source is read to its end, or to one byte more than a job may have
 abbrev pub ReadsJob : Option (List ℕ) → Option (List ℕ) → Type 0
@@ -98,7 +112,7 @@ ReadsJob before after =
     × (job_limit < length input → TakesExactly (job_limit + 1) before after))
 
 -- the status, the history and the text that command words and an input call for
-pub data Names (words : List (List ℕ)) (input : List ℕ) : ℕ → List Event → List ℕ → Type 0 where
-  words_refused : (text : List ℕ) → RefusesWords words text → Names words input 1 [] text
-  called : (status : ℕ) (front : List Event) (text : List ℕ) → AcceptsWords words → Calls input status front text
-      → Names words input status front text
+pub data Names (kinds : List Kind) (words : List (List ℕ)) (input : List ℕ) : ℕ → List Event → List ℕ → Type 0 where
+  words_refused : (text : List ℕ) → RefusesWords words (names_of kinds) text → Names kinds words input 1 [] text
+  called : (places : List ℕ) (status : ℕ) (front : List Event) (text : List ℕ) → Chooses words (names_of kinds) places
+      → Calls kinds places input status front text → Names kinds words input status front text

@@ -1,1 +1,4 @@
+pub mod Statistics
 pub mod Answers
+pub mod Findings
+pub mod Laws

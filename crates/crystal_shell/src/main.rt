@@ -2,11 +2,16 @@
 #![tactic(auto)]
 
 mod answer;
+mod answers;
+mod findings;
+mod laws;
 mod sessions;
+mod statistics;
 #[cfg(test)]
 mod tests;
 mod top;
 
+use crystal_characters::{CharacterTally, EndTally, Statistic, StringTally};
 use crystal_streams::{InputAdapter, OutputAdapter};
 use std::alloc::AllocError;
 use std::io::ErrorKind;
@@ -18,13 +23,24 @@ const NO_MEMORY: u8 = 6;
 
 /// Runs the program on standard input and standard output, and ends with the status of the run.
 fn main(rt: HostRuntime) -> ExitCode {
-    let Ok(words) = command_words(&rt) else {
-        return ExitCode::from(NO_MEMORY);
-    };
+    match status(&rt) {
+        Ok(status) => ExitCode::from(status),
+        Err(AllocError) => ExitCode::from(NO_MEMORY),
+    }
+}
+
+/// The status of a run on standard input and standard output, with the statistics `character`, `strings` and `ends`.
+fn status(rt: &HostRuntime) -> Result<u8, AllocError> {
+    let alloc = rt.alloc();
+    let words = command_words(rt)?;
+    let mut stats: Vec<Box<dyn Statistic>> = Vec::new(alloc);
+    stats.push(Box::new(alloc, CharacterTally::new(alloc))?)?;
+    stats.push(Box::new(alloc, StringTally::new(alloc))?)?;
+    stats.push(Box::new(alloc, EndTally::new(alloc))?)?;
     let mut source = InputAdapter::new(rt.stdin());
     let mut sink = OutputAdapter::new(rt.stdout());
-    let outcome = top::run(rt.alloc(), words.as_slice(), &mut source, &mut sink);
-    ExitCode::from(outcome.status)
+    let outcome = top::run(alloc, words.as_slice(), &mut source, &mut sink, stats);
+    Ok(outcome.status)
 }
 
 /// The command words without the program's name; none where one of them is no text.

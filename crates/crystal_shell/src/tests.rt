@@ -1,7 +1,10 @@
 //! The program from bytes to bytes, on streams in memory. The whole texts are the documented ones, the sizes follow
 //! from Weyl's dimension formula, and the numbers of arrows from the characters of those components.
 
+mod statistics;
+
 use crate::top::run;
+use crystal_characters::{CharacterTally, EndTally, Statistic, StringTally};
 use crystal_streams::{MemorySink, MemorySource};
 use std::alloc::{AllocError, Global};
 use std::test::Fail;
@@ -17,13 +20,27 @@ fn strings(alloc: Global, words: &[&str]) -> Result<Vec<String>, AllocError> {
     Ok(all)
 }
 
+/// The status of a run with the three statistics.
+fn status(
+    alloc: Global,
+    words: &[String],
+    source: &mut MemorySource,
+    sink: &mut MemorySink,
+) -> Result<u8, AllocError> {
+    let mut stats: Vec<Box<dyn Statistic>> = Vec::new(alloc);
+    stats.push(Box::new(alloc, CharacterTally::new(alloc))?)?;
+    stats.push(Box::new(alloc, StringTally::new(alloc))?)?;
+    stats.push(Box::new(alloc, EndTally::new(alloc))?)?;
+    Ok(run(alloc, words, source, sink, stats).status)
+}
+
 /// The status and the output of a run over these words and this input.
 fn ran(alloc: Global, words: &[&str], input: &[u8]) -> Result<(u8, Vec<u8>), Fail> {
     let words = strings(alloc, words)?;
     let mut source = MemorySource::new(input.to_vec(alloc)?, Vec::new(alloc), 4096);
     let mut sink = MemorySink::new(alloc, ROOM, Vec::new(alloc), 4096)?;
-    let outcome = run(alloc, words.as_slice(), &mut source, &mut sink);
-    Ok((outcome.status, sink.bytes().to_vec(alloc)?))
+    let ended = status(alloc, words.as_slice(), &mut source, &mut sink)?;
+    Ok((ended, sink.bytes().to_vec(alloc)?))
 }
 
 /// A job with this text behind the header.
@@ -63,6 +80,9 @@ const C2: &str =
     "crystal C 2\ngraph 5 4\n0 | 2 1 | 1 1 | 2:1\n1 | -2 1 | 1 -1 | 1:2\n2 | -2 2 | 0 0 | 1:3\n\
 3 | -1 2 | -1 1 | 2:4\n4 | -1 -2 | -1 -1 | -\nend\n";
 
+const A2_VECTOR: &str =
+    "crystal A 2\ngraph 3 2\n0 | 1 | 1 0 0 | 1:1\n1 | 2 | 0 1 0 | 2:2\n2 | 3 | 0 0 1 | -\nend\n";
+
 const C2_VECTOR: &str =
     "crystal C 2\ngraph 4 3\n0 | 1 | 1 0 | 1:1\n1 | 2 | 0 1 | 2:2\n2 | -2 | 0 -1 | 1:3\n\
 3 | -1 | -1 0 | -\nend\n";
@@ -96,6 +116,7 @@ fn whole_texts(rt: HostRuntime) -> Result<(), Fail> {
         ("1", "type D 4\nspace v\nstart 1\n", 0, D4),
         ("1", "type C 2\nspace v\nstart -1\n", 0, C2_VECTOR),
         ("3", "type C 2\nshape 1 1\n", 0, C2),
+        ("1", "type A 2\nshape 1\nstart 1\nstart 2\n", 0, A2_VECTOR),
     ] {
         let (ended, output) = grown(rt.alloc(), growers, text)?;
         assert_eq!(rt; ended, status);
@@ -180,6 +201,68 @@ fn sessions(rt: HostRuntime) -> Result<(), Fail> {
     Ok(())
 }
 
+const A2_ASKS: &str =
+    "crystal A 2\ngraph 3 2\n0 | 1 | 1 0 0 | 1:1\n1 | 2 | 0 1 0 | 2:2\n2 | 3 | 0 0 1 | -\n\
+demazure 2 1 | 3\n0 | 1\n1 | 2\n2 | 3\ndemazure 1 2 | 2\n0 | 1\n1 | 2\nreflect 1 | 3\n0 | 1\n1 | 0\n2 | 2\nend\n";
+
+const A2_SECOND_START: &str =
+    "crystal A 2\ngraph 3 2\n0 | 1 | 1 0 0 | 1:1\n1 | 2 | 0 1 0 | 2:2\n2 | 3 | 0 0 1 | -\n\
+demazure 2 | 2\n1 | 2\n2 | 3\nend\n";
+
+const C2_TOPS: &str =
+    "crystal C 2\ngraph 4 3\n0 | 1 | 1 0 | 1:1\n1 | 2 | 0 1 | 2:2\n2 | -2 | 0 -1 | 1:3\n\
+3 | -1 | -1 0 | -\ntops 1 | 3\n1 1 | 2 0\n2 1 | 1 1\n-1 1 | 0 0\nend\n";
+
+const WITH_ALL: &str = "crystal A 1\nsession 1\n2\ngraph 2 1\n0 | 1 | 1 0 | 1:1\n1 | 2 | 0 1 | -\n\
+statistic ends\n2\nreflect 1 | 2\n0 | 1\n1 | 0\ndemazure 1 | 2\n0 | 1\n1 | 2\nend\n";
+
+#[test]
+fn asks(rt: HostRuntime) -> Result<(), Fail> {
+    for (words, text, status, answer) in [
+        (
+            ["grow", "2"].as_slice(),
+            "type A 2\nshape 1\ndemazure 2 1\ndemazure 1 2\nreflect 1\n",
+            0,
+            A2_ASKS,
+        ),
+        (
+            ["grow", "1"].as_slice(),
+            "type A 2\nspace v\nstart 2\ndemazure 2\n",
+            0,
+            A2_SECOND_START,
+        ),
+        (
+            ["grow", "1"].as_slice(),
+            "type A 2\nspace v\nstart 2\nstart 1\ndemazure 2\n",
+            0,
+            A2_SECOND_START,
+        ),
+        (
+            ["grow", "1"].as_slice(),
+            "type C 2\nshape 1\ntops 1\n",
+            0,
+            C2_TOPS,
+        ),
+        (
+            ["grow", "2", "ends"].as_slice(),
+            "type A 1\nshape 1\nsession\nf 1 1\nreflect 1\ndemazure 1\n",
+            0,
+            WITH_ALL,
+        ),
+        (
+            ["grow", "2", "ends"].as_slice(),
+            "type A 2\nshape 1\ncells 2\ndemazure 2 1\n",
+            3,
+            "crystal A 2\nfull\nend\n",
+        ),
+    ] {
+        let (ended, output) = ran(rt.alloc(), words, job(rt.alloc(), text)?.as_slice())?;
+        assert_eq!(rt; ended, status);
+        assert_eq!(rt; output.as_slice(), answer.as_bytes());
+    }
+    Ok(())
+}
+
 #[test]
 fn sizes(rt: HostRuntime) -> Result<(), Fail> {
     for (text, line) in [
@@ -229,6 +312,10 @@ fn refused_words(rt: HostRuntime) -> Result<(), Fail> {
         (["grow", "0"].as_slice(), "refused words 4\n"),
         (["grow", "17"].as_slice(), "refused words 4\n"),
         (["grow", "2", "lengths"].as_slice(), "refused words 5\n"),
+        (
+            ["grow", "2", "ends", "ends"].as_slice(),
+            "refused words 6\n",
+        ),
         (["sample", "2"].as_slice(), "refused words 7\n"),
         (["sample", "1", "2"].as_slice(), "refused words 8\n"),
     ] {
@@ -273,10 +360,6 @@ fn refused_jobs(rt: HostRuntime) -> Result<(), Fail> {
         ),
         ("type A 2\nsession\n", "refused job line 3 fault 4\n"),
         ("type A 2\n", "refused job line 3 fault 12\n"),
-        (
-            "type A 2\nshape 1\nreflect 1\n",
-            "refused job line 0 fault 15\n",
-        ),
     ] {
         let (ended, output) = grown(rt.alloc(), "2", text)?;
         assert_eq!(rt; ended, 2);
@@ -318,7 +401,13 @@ fn faulty(alloc: Global, reads: &[u64], writes: &[u64]) -> Result<(u8, Vec<u8>),
     let input = job(alloc, "type A 2\nshape 2 1\ncells 8\n")?;
     let mut source = MemorySource::new(input, reads.to_vec(alloc)?, 4096);
     let mut sink = MemorySink::new(alloc, ROOM, writes.to_vec(alloc)?, 16)?;
-    let outcome = run(alloc, words.as_slice(), &mut source, &mut sink);
+    let outcome = run(
+        alloc,
+        words.as_slice(),
+        &mut source,
+        &mut sink,
+        Vec::new(alloc),
+    );
     Ok((outcome.status, sink.bytes().to_vec(alloc)?))
 }
 

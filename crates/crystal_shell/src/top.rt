@@ -1,75 +1,73 @@
 //! The top call: from bytes to bytes.
-ghost use Rattle.std.specs.Prelude.{◌≡◌, ◌≢◌, ◌+◌, ◌≤◌, ◌<◌, ◌⊎◌, ℕ, IfOk, IfErr, IfSome, OnOk, IsErrOf, IsTrue, IsFalse, length, map, string_bytes, take, List, [], Err, Ok};
+ghost use Rattle.std.specs.Prelude.{◌≡◌, ◌≢◌, ◌+◌, ◌≤◌, ◌<◌, ◌⊎◌, ℕ, IfOk, IfErr, IfSome, OnOk, IsErrOf, length, map, string_bytes, slice_index_or, take, List, [], Err, Ok};
 ghost use Rattle.std.specs.Io.KnownBytes.{Appends, Keeps};
-ghost use Rattle.tensor_words.specs.Reach.{IsComponentList, Outnumber};
-ghost use Rattle.command_words.specs.Judge.{judge_words, IsAnswer};
+ghost use Rattle.command_words.specs.Judge.{judge_words, IsAnswer, FitsNames};
 ghost use Rattle.crystal_streams.specs.Faults.{Rose};
 ghost use Rattle.crystal_streams.specs.Reads.{TakesAtMost};
-ghost use Rattle.job_text.specs.Jobs.{IsJob};
-ghost use Rattle.job_text.specs.Judge.{judge};
-ghost use Rattle.job_text.specs.Outcomes.{Tells};
-ghost use Rattle.session_desk.specs.declared.reply.Reply.{Reply as ReplyType};
-ghost use Rattle.answer_text.specs.Texts.{words_refusal, job_refusal};
-ghost use Rattle.crystal_shell.specs.Answers.{Names, Calls, Hears, RefusesWords, AcceptsWords, ReadsJob, IsServed, IsNotServed, IsHistory, job_limit, whole_text, full_text};
+ghost use Rattle.crystal_shell.specs.Statistics.{Kind, names_of};
+ghost use Rattle.crystal_shell.specs.Answers.{Names, Hears, Chooses, RefusesWords, AcceptsWords, ReadsJob, FitsPlaces, job_limit};
 
-use crate::answer::{Answer, Outcome, Stop};
-use crate::sessions::serve;
-use answer_text::{
-    push_end, push_full, push_graph, push_head, push_job_refusal, push_sessions, push_words_refusal,
-};
-use canonical_graph::{Finished, PlainFault, grow_plain};
-use command_words::{Settings, WordsFault, read_words};
-use crystal_streams::{NoMemory, ReadEnd, Sink, Source, WriteFault, read_all, write_all};
+use crate::answer::{Answer, Heard, Outcome, Stop};
+use crate::answers::{answer, refused_words};
+use crate::findings::find;
+use crate::statistics::read_words;
+use command_words::{Settings, WordsFault};
+use crystal_characters::Statistic;
+use crystal_streams::{NoMemory, Sink, Source, WriteFault, write_all};
 use graph_history::Front;
-use job_text::{Job, JobFault, read_job};
 use std::alloc::Global;
-
-/// The most bytes of a job.
-const JOB_LIMIT: usize = 1_048_576;
 
 /// The fault of command words whose mode is not served yet.
 const MODE_NOT_SERVED: u8 = 8;
 
-/// The fault of a job that is too long, and of one with a part that is not served yet.
-const TOO_LONG: u8 = 14;
-
-const JOB_NOT_SERVED: u8 = 15;
-
 /// Reads command words and a job, and writes the answer. All memory is taken before the first write.
 ///
 /// `words` are the command words without the program's name. The sessions of the job run one after another on a graph
-/// in memory, and their history is in the outcome.
+/// in memory, and their history is in the outcome. Of the statistics those whose names the words have are fed every
+/// vertex once, in ascending rank, and reported; each has been fed nothing before, and has a name of at most 64 bytes.
+/// All of them are dropped.
 pub fn run<R: Source, W: Sink>(
     alloc: Global,
     words: &[String],
     source: &mut R,
     sink: &mut W,
+    stats: Vec<Box<dyn Statistic>>,
 ) -> Outcome
-    ensures told { result.status ≤ 3 → IfSome (R.left source.old) (λ input. (text : List ℕ)
-        × Names (map string_bytes words.now) input result.status result.front text
+    requires unfed { (k : ℕ) (d : _) → k < length stats.items → fed (slice_index_or stats.items k d) ≡ [] }
+    requires short { (k : ℕ) (d : _) → k < length stats.items → length (named (slice_index_or stats.items k d)) ≤ 64 }
+    ensures told { let kinds : List Kind = map (λ b. record { name = named b; reports = reported b }) stats.items in
+        result.status ≤ 3 → IfSome (R.left source.old) (λ input. (text : List ℕ)
+        × Names kinds (map string_bytes words.now) input result.status result.front text
         × Appends (W.held sink.old) (W.held sink.new) text) }
-    ensures words { result.status ≤ 3 → (text : List ℕ) → RefusesWords (map string_bytes words.now) text →
+    ensures words { let kinds : List Kind = map (λ b. record { name = named b; reports = reported b }) stats.items in
+        result.status ≤ 3 → (text : List ℕ) → RefusesWords (map string_bytes words.now) (names_of kinds) text →
         (result.status ≡ 1) × Appends (W.held sink.old) (W.held sink.new) text }
-    ensures one { result.status ≡ 1 → (text : List ℕ) × RefusesWords (map string_bytes words.now) text }
-    ensures unheard { (text : List ℕ) → RefusesWords (map string_bytes words.now) text →
+    ensures one { let kinds : List Kind = map (λ b. record { name = named b; reports = reported b }) stats.items in
+        result.status ≡ 1 → (text : List ℕ) × RefusesWords (map string_bytes words.now) (names_of kinds) text }
+    ensures unheard { let kinds : List Kind = map (λ b. record { name = named b; reports = reported b }) stats.items in
+        (text : List ℕ) → RefusesWords (map string_bytes words.now) (names_of kinds) text →
         (source.new ≡ source.old) × (result.front ≡ []) }
-    ensures taken { AcceptsWords (map string_bytes words.now) → result.status ≢ 4 → result.status ≢ 6 →
+    ensures taken { let kinds : List Kind = map (λ b. record { name = named b; reports = reported b }) stats.items in
+        AcceptsWords (map string_bytes words.now) (names_of kinds) → result.status ≢ 4 → result.status ≢ 6 →
         ReadsJob (R.left source.old) (R.left source.new) }
     ensures most { TakesAtMost (job_limit + 1) (R.left source.old) (R.left source.new) }
     ensures later { (R.faults source.old ≤ R.faults source.new)
         × (W.faults sink.old ≤ W.faults sink.new) }
-    ensures read_fault { result.status ≡ 4 → AcceptsWords (map string_bytes words.now)
+    ensures read_fault { let kinds : List Kind = map (λ b. record { name = named b; reports = reported b }) stats.items in
+        result.status ≡ 4 → AcceptsWords (map string_bytes words.now) (names_of kinds)
         × Rose (R.faults source.old) (R.faults source.new)
         × Keeps (W.held sink.old) (W.held sink.new) }
-    ensures write_fault { result.status ≡ 5 → Rose (W.faults sink.old) (W.faults sink.new)
+    ensures write_fault { let kinds : List Kind = map (λ b. record { name = named b; reports = reported b }) stats.items in
+        result.status ≡ 5 → Rose (W.faults sink.old) (W.faults sink.new)
         × IfSome (R.left source.old) (λ input. (status : ℕ) × (text : List ℕ) × (n : ℕ)
-        × Names (map string_bytes words.now) input status result.front text
+        × Names kinds (map string_bytes words.now) input status result.front text
         × Appends (W.held sink.old) (W.held sink.new) (take n text)) }
     ensures memory { result.status ≡ 6 → Keeps (W.held sink.old) (W.held sink.new) }
     ensures unserved { (result.status ≡ 4) ⊎ (result.status ≡ 6) → result.front ≡ [] }
     ensures statuses { result.status ≤ 6 }
 {
-    match find_answer(alloc, words, source) {
+    let mut stats = stats;
+    match find_answer(alloc, words, source, &mut stats) {
         Ok(answer) => write_answer(sink, answer),
         Err(Stop::ReadFault) => without_answer(4),
         Err(Stop::NoMemory) => without_answer(6),
@@ -110,30 +108,47 @@ fn without_answer(status: u8) -> Outcome
 }
 
 /// The answer that the command words and the source call for.
-fn find_answer<R: Source>(alloc: Global, words: &[String], source: &mut R) -> Result<Answer, Stop>
-    ensures answer { IfOk result (λ answer. IfSome (R.left source.old) (λ input.
-        Names (map string_bytes words.now) input answer.status answer.front answer.text.items)) }
+fn find_answer<R: Source>(
+    alloc: Global,
+    words: &[String],
+    source: &mut R,
+    stats: &mut Vec<Box<dyn Statistic>>,
+) -> Result<Answer, Stop>
+    requires unfed { (k : ℕ) (d : _) → k < length stats.old.items → fed (slice_index_or stats.old.items k d) ≡ [] }
+    requires short { (k : ℕ) (d : _) → k < length stats.old.items → length (named (slice_index_or stats.old.items k d)) ≤ 64 }
+    ensures answer { let kinds : List Kind = map (λ b. record { name = named b; reports = reported b }) stats.old.items in
+        IfOk result (λ answer. IfSome (R.left source.old) (λ input.
+        Names kinds (map string_bytes words.now) input answer.status answer.front answer.text.items)) }
     ensures low { IfOk result (λ answer. answer.status ≤ 3) }
-    ensures words { (text : List ℕ) → RefusesWords (map string_bytes words.now) text →
+    ensures words { let kinds : List Kind = map (λ b. record { name = named b; reports = reported b }) stats.old.items in
+        (text : List ℕ) → RefusesWords (map string_bytes words.now) (names_of kinds) text →
         IfOk result (λ answer. (answer.status ≡ 1) × (answer.front ≡ []) × (answer.text.items ≡ text)) }
-    ensures one { IfOk result (λ answer. answer.status ≡ 1 →
-        RefusesWords (map string_bytes words.now) answer.text.items) }
-    ensures unread { (text : List ℕ) → RefusesWords (map string_bytes words.now) text →
+    ensures one { let kinds : List Kind = map (λ b. record { name = named b; reports = reported b }) stats.old.items in
+        IfOk result (λ answer. answer.status ≡ 1 →
+        RefusesWords (map string_bytes words.now) (names_of kinds) answer.text.items) }
+    ensures unread { let kinds : List Kind = map (λ b. record { name = named b; reports = reported b }) stats.old.items in
+        (text : List ℕ) → RefusesWords (map string_bytes words.now) (names_of kinds) text →
         source.new ≡ source.old }
-    ensures taken { AcceptsWords (map string_bytes words.now) →
+    ensures taken { let kinds : List Kind = map (λ b. record { name = named b; reports = reported b }) stats.old.items in
+        AcceptsWords (map string_bytes words.now) (names_of kinds) →
         OnOk result (ReadsJob (R.left source.old) (R.left source.new)) }
     ensures most { TakesAtMost (job_limit + 1) (R.left source.old) (R.left source.new) }
     ensures later { R.faults source.old ≤ R.faults source.new }
-    ensures read_fault { IsErrOf result Stop.ReadFault → AcceptsWords (map string_bytes words.now)
+    ensures read_fault { let kinds : List Kind = map (λ b. record { name = named b; reports = reported b }) stats.old.items in
+        IsErrOf result Stop.ReadFault → AcceptsWords (map string_bytes words.now) (names_of kinds)
         × Rose (R.faults source.old) (R.faults source.new) }
 {
-    let fault = match words_fault(alloc, words) {
-        Ok(fault) => fault,
+    let heard = match hear(alloc, words, stats.as_slice()) {
+        Ok(heard) => heard,
         Err(NoMemory) => return Err(Stop::NoMemory),
     };
-    match fault {
-        None => answer_of_source(alloc, source),
-        Some(fault) => or_stop(refused_words(alloc, fault)),
+    let places = match heard {
+        Heard::Chosen { places } => places,
+        Heard::Refused { fault } => return or_stop(refused_words(alloc, fault)),
+    };
+    match find(alloc, source) {
+        Ok(found) => or_stop(answer(alloc, found, stats, &places)),
+        Err(stop) => Err(stop),
     }
 }
 
@@ -148,183 +163,39 @@ fn or_stop(answer: Result<Answer, NoMemory>) -> Result<Answer, Stop>
     }
 }
 
-/// The answer to command words with this fault.
-fn refused_words(alloc: Global, fault: u8) -> Result<Answer, NoMemory>
-    ensures { IfOk result (λ answer. (answer.status ≡ 1) × (answer.front ≡ []) × (answer.text.items ≡ words_refusal fault)) }
+/// What the command words say.
+fn hear(alloc: Global, words: &[String], stats: &[Box<dyn Statistic>]) -> Result<Heard, NoMemory>
+    ensures heard { let kinds : List Kind = map (λ b. record { name = named b; reports = reported b }) stats.now in
+        IfOk result (Hears (map string_bytes words.now) (names_of kinds)) }
+    ensures fits { IfOk result (FitsPlaces (length stats.now)) }
 {
-    let mut text = Vec::new(alloc);
-    push_words_refusal(&mut text, fault)?;
-    Ok(Answer {
-        status: 1,
-        front: Front::empty(),
-        text,
-    })
-}
-
-/// The answer to a job with this fault at this line.
-fn refused_job(alloc: Global, line: u32, fault: u8) -> Result<Answer, NoMemory>
-    ensures { IfOk result (λ answer. (answer.status ≡ 2) × (answer.front ≡ []) × (answer.text.items ≡ job_refusal line fault)) }
-{
-    let mut text = Vec::new(alloc);
-    push_job_refusal(&mut text, line, fault)?;
-    Ok(Answer {
-        status: 2,
-        front: Front::empty(),
-        text,
-    })
-}
-
-/// The number of the fault of the command words, none where they are accepted.
-fn words_fault(alloc: Global, words: &[String]) -> Result<Option<u8>, NoMemory>
-    ensures { IfOk result (Hears (map string_bytes words.now)) }
-{
-    match read_words(alloc, words, &[]) {
-        Ok(settings) => Ok(mode_fault(&settings)),
-        Err(fault) => number_of(fault),
+    match read_words(alloc, words, stats) {
+        Ok(settings) => Ok(heard_of(settings)),
+        Err(fault) => heard_fault(fault),
     }
 }
 
-/// The number of the fault of accepted settings: there is one where their mode is not served.
-fn mode_fault(settings: &Settings) -> Option<u8>
-    ensures { (words : List (List ℕ)) → judge_words words [] ≡ Ok settings.now → Hears words result }
+/// What accepted settings say: they are refused where their mode is not served.
+fn heard_of(settings: Settings) -> Heard
+    ensures heard { (words names : List (List ℕ)) → judge_words words names ≡ Ok settings → Hears words names result }
+    ensures fits { (count : ℕ) → FitsNames count settings → FitsPlaces count result }
 {
     match settings {
-        Settings::Grow { .. } => None,
-        Settings::Sample { .. } => Some(MODE_NOT_SERVED),
+        Settings::Grow { chosen, .. } => Heard::Chosen { places: chosen },
+        Settings::Sample { .. } => Heard::Refused {
+            fault: MODE_NOT_SERVED,
+        },
     }
 }
 
-/// The number of a fault of command words.
-fn number_of(fault: WordsFault) -> Result<Option<u8>, NoMemory>
-    ensures { IfOk result (λ number. (words : List (List ℕ)) →
-        IsAnswer (judge_words words []) (Err fault) → Hears words number) }
+/// What a fault of command words says.
+fn heard_fault(fault: WordsFault) -> Result<Heard, NoMemory>
+    ensures heard { IfOk result (λ heard. (words names : List (List ℕ)) →
+        IsAnswer (judge_words words names) (Err fault) → Hears words names heard) }
+    ensures fits { IfOk result (λ heard. (count : ℕ) → FitsPlaces count heard) }
 {
     match fault.number() {
-        Some(number) => Ok(Some(number)),
+        Some(number) => Ok(Heard::Refused { fault: number }),
         None => Err(NoMemory),
     }
-}
-
-/// The answer to the input of the source.
-fn answer_of_source<R: Source>(alloc: Global, source: &mut R) -> Result<Answer, Stop>
-    ensures answer { IfOk result (λ answer. IfSome (R.left source.old) (λ input.
-        Calls input answer.status answer.front answer.text.items)) }
-    ensures low { IfOk result (λ answer. answer.status ≤ 3) }
-    ensures job { IfOk result (λ answer. answer.status ≢ 1) }
-    ensures taken { OnOk result (ReadsJob (R.left source.old) (R.left source.new)) }
-    ensures most { TakesAtMost (job_limit + 1) (R.left source.old) (R.left source.new) }
-    ensures later { R.faults source.old ≤ R.faults source.new }
-    ensures read_fault { IsErrOf result Stop.ReadFault → Rose (R.faults source.old) (R.faults source.new) }
-{
-    match read_all(alloc, source, JOB_LIMIT) {
-        Ok(bytes) => or_stop(answer_of_text(alloc, bytes.as_slice())),
-        Err(ReadEnd::TooLong) => or_stop(refused_job(alloc, 0, TOO_LONG)),
-        Err(ReadEnd::ReadFault) => Err(Stop::ReadFault),
-        Err(ReadEnd::NoMemory) => Err(Stop::NoMemory),
-    }
-}
-
-/// The answer to the text of a job.
-fn answer_of_text(alloc: Global, bytes: &[u8]) -> Result<Answer, NoMemory>
-    requires { length bytes.now ≤ job_limit }
-    ensures answer { IfOk result (λ answer. Calls bytes.now answer.status answer.front answer.text.items) }
-    ensures low { IfOk result (λ answer. answer.status ≤ 3) }
-    ensures job { IfOk result (λ answer. answer.status ≢ 1) }
-{
-    match read_job(alloc, bytes) {
-        Ok(job) => answer_of_job(alloc, job),
-        Err(fault) => answer_of_fault(alloc, fault),
-    }
-}
-
-/// The answer to a job that is refused.
-fn answer_of_fault(alloc: Global, fault: JobFault) -> Result<Answer, NoMemory>
-    ensures answer { (input : List ℕ) → length input ≤ job_limit → Tells (Err fault) (judge input) →
-        IfOk result (λ answer. Calls input answer.status answer.front answer.text.items) }
-    ensures job { IfOk result (λ answer. answer.status ≡ 2) }
-{
-    match fault {
-        JobFault::At { line, why } => refused_job(alloc, line, why.number()),
-        JobFault::NoMemory => Err(NoMemory),
-    }
-}
-
-/// Whether the job has no asks.
-fn is_served(job: &Job) -> bool
-    ensures served { IsTrue result → IsServed job.now }
-    ensures unserved { IsFalse result → IsNotServed job.now }
-{
-    job.asks.len() == 0
-}
-
-/// The answer to a job.
-fn answer_of_job(alloc: Global, job: Job) -> Result<Answer, NoMemory>
-    requires { IsJob job }
-    ensures answer { (input : List ℕ) → length input ≤ job_limit → judge input ≡ Ok job →
-        IfOk result (λ answer. Calls input answer.status answer.front answer.text.items) }
-    ensures low { IfOk result (λ answer. answer.status ≤ 3) }
-    ensures job { IfOk result (λ answer. answer.status ≢ 1) }
-{
-    if !is_served(&job) {
-        return refused_job(alloc, 0, JOB_NOT_SERVED);
-    }
-    match grow_plain(alloc, &job.world) {
-        Ok(finished) => whole_answer(alloc, job, &finished),
-        Err(PlainFault::Full) => full_answer(alloc, job),
-        Err(PlainFault::NoMemory) => Err(NoMemory),
-    }
-}
-
-/// The answer to a job whose graph is finished.
-fn whole_answer(alloc: Global, job: Job, finished: &Finished) -> Result<Answer, NoMemory>
-    requires job { IsJob job }
-    requires space { finished.now.space ≡ job.world.space }
-    ensures history { IfOk result (λ answer. (told : List (List ReplyType)) × IsHistory job answer.front told
-        × (answer.text.items ≡ whole_text finished.now told)) }
-    ensures status { IfOk result (λ answer. answer.status ≡ 0) }
-{
-    let Job {
-        world,
-        starts,
-        scripts,
-        ..
-    } = job;
-    let served = serve(alloc, world, &starts, &scripts)?;
-    let mut text = Vec::new(alloc);
-    push_head(&mut text, finished.space().cartan())?;
-    push_sessions(&mut text, finished.space(), served.told.as_slice())?;
-    push_graph(&mut text, finished)?;
-    push_end(&mut text)?;
-    Ok(Answer {
-        status: 0,
-        front: served.front,
-        text,
-    })
-}
-
-/// The answer to a job with more reached words than cells.
-fn full_answer(alloc: Global, job: Job) -> Result<Answer, NoMemory>
-    requires { IsJob job }
-    ensures history { IfOk result (λ answer. (told : List (List ReplyType)) × IsHistory job answer.front told
-        × (answer.text.items ≡ full_text job.world told)) }
-    ensures status { IfOk result (λ answer. answer.status ≡ 3) }
-{
-    let Job {
-        world,
-        starts,
-        scripts,
-        ..
-    } = job;
-    let space = *world.space();
-    let served = serve(alloc, world, &starts, &scripts)?;
-    let mut text = Vec::new(alloc);
-    push_head(&mut text, space.cartan())?;
-    push_sessions(&mut text, &space, served.told.as_slice())?;
-    push_full(&mut text)?;
-    push_end(&mut text)?;
-    Ok(Answer {
-        status: 3,
-        front: served.front,
-        text,
-    })
 }

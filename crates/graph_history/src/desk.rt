@@ -43,7 +43,7 @@ pub trait Desk {
         requires root { Contains (world self.old).roots code }
         requires room { 0 < room self.old }
         ensures same { (world self.new ≡ world self.old) × (caller self.new ≡ caller self.old) × (bond self.new ≡ bond self.old) }
-        ensures room { room self.old ≤ room self.new + 1 }
+        ensures room { (room self.new ≤ room self.old) × (room self.old ≤ room self.new + 1) }
         ensures events { Grows (world self.old) (caller self.old) (front self.old) (front self.new) (add_acts code Root result) }
         ensures last { EndsWith (caller self.old) (front self.new) };
 
@@ -71,7 +71,7 @@ pub trait Desk {
         requires arrow { IsArrow (world self.old).space arrow }
         requires room { 0 < room self.old }
         ensures same { (world self.new ≡ world self.old) × (caller self.new ≡ caller self.old) × (bond self.new ≡ bond self.old) }
-        ensures room { room self.old ≤ room self.new + 1 }
+        ensures room { (room self.new ≤ room self.old) × (room self.old ≤ room self.new + 1) }
         ensures events { Drawing (world self.old) (caller self.old) (front self.old) (front self.new) cell arrow result }
         ensures last { EndsWith (caller self.old) (front self.new) };
 

@@ -2,7 +2,9 @@
 ghost use Rattle.std.specs.Prelude.{◌≡◌, ℕ, ◌+◌, ◌<◌, ◌≤◌, List, [], Contains};
 ghost use Rattle.tensor_words.specs.Spaces.{size};
 ghost use Rattle.tensor_words.specs.Operators.{IsArrow};
-ghost use Rattle.graph_history.specs.History.{others};
+ghost use Rattle.graph_history.specs.declared.event.Origin.TheVariants.{Root};
+ghost use Rattle.graph_history.specs.History.{state_of, HasSome, others};
+ghost use Rattle.graph_history.specs.Desks.{Grows, EndsWith, Drawing, add_acts};
 
 use crate::answer::{Added, Draw, Look};
 use crate::desk::Desk;
@@ -33,7 +35,14 @@ impl Desk for PlainDesk {
         self.room_left()
     }
 
-    fn add(&mut self, code: u64) -> Added {
+    fn add(&mut self, code: u64) -> Added
+        requires root { Contains self.old.world.roots code }
+        requires room { 0 < self.old.room }
+        ensures same { (self.new.world ≡ self.old.world) × (self.new.caller ≡ self.old.caller) × (others self.new.caller self.new.front ≡ others self.old.caller self.old.front) }
+        ensures room { self.old.room ≡ self.new.room + 1 }
+        ensures events { Grows self.old.world self.old.caller self.old.front self.new.front (add_acts code Root result) }
+        ensures last { EndsWith self.old.caller self.new.front }
+    {
         self.known();
         self.spend();
         let answer = self.enter(code, Origin::Root);
@@ -70,7 +79,15 @@ impl Desk for PlainDesk {
         look
     }
 
-    fn draw(&mut self, cell: u32, arrow: Arrow) -> Draw {
+    fn draw(&mut self, cell: u32, arrow: Arrow) -> Draw
+        requires there { HasSome (state_of self.old.front) cell }
+        requires arrow { IsArrow self.old.world.space arrow }
+        requires room { 0 < self.old.room }
+        ensures same { (self.new.world ≡ self.old.world) × (self.new.caller ≡ self.old.caller) × (others self.new.caller self.new.front ≡ others self.old.caller self.old.front) }
+        ensures room { self.old.room ≡ self.new.room + 1 }
+        ensures events { Drawing self.old.world self.old.caller self.old.front self.new.front cell arrow result }
+        ensures last { EndsWith self.old.caller self.new.front }
+    {
         self.spend();
         match self.target(cell, arrow) {
             Look::Blank => self.draw_blank(cell, arrow),

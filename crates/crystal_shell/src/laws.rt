@@ -1,0 +1,8 @@
+//! The law of the answer.
+ghost use Rattle.crystal_shell.specs.Laws.{AnswersAreDetermined};
+
+/// The command words and the input determine the status of an answer, and with its history its text: how the cells were
+/// chosen and who came first is in the history alone. The call does nothing: its contract is the theorem.
+pub fn answers_are_determined()
+    ensures { AnswersAreDetermined }
+{}

@@ -1,0 +1,188 @@
+//! Statistics: their reports behind the graph, and how often they are fed and dropped.
+ghost use Rattle.std.specs.Prelude.{◌≡◌, [], IfOk};
+
+use super::{A2, ROOM, job, ran, strings};
+use crate::top::run;
+use crystal_characters::{Item, Statistic};
+use crystal_streams::{MemorySink, MemorySource, NoMemory};
+use std::alloc::{AllocError, Global};
+use std::cell::Cell;
+use std::rc::Rc;
+use std::test::Fail;
+
+/// The first job's answer, from what stands between its graph and its last line.
+fn answer_with(alloc: Global, parts: &str) -> Result<Vec<u8>, AllocError> {
+    let mut bytes = A2.as_bytes().to_vec(alloc)?;
+    bytes.truncate(A2.len().saturating_sub(4));
+    bytes.extend_from_slice(parts.as_bytes())?;
+    bytes.extend_from_slice(b"end\n")?;
+    Ok(bytes)
+}
+
+#[test]
+fn statistics(rt: HostRuntime) -> Result<(), Fail> {
+    let alloc = rt.alloc();
+    for (words, parts) in [
+        (
+            ["grow", "2", "character"].as_slice(),
+            "statistic character\n2 1 0 | 1\n2 0 1 | 1\n1 2 0 | 1\n1 1 1 | 2\n1 0 2 | 1\n0 2 1 | 1\n\
+             0 1 2 | 1\n",
+        ),
+        (
+            ["grow", "2", "strings", "ends"].as_slice(),
+            "statistic strings\n1 | 4 | 2\n2 | 4 | 2\nstatistic ends\n6\n",
+        ),
+        (
+            ["grow", "1", "ends", "strings"].as_slice(),
+            "statistic ends\n6\nstatistic strings\n1 | 4 | 2\n2 | 4 | 2\n",
+        ),
+    ] {
+        let input = job(alloc, "type A 2\nshape 2 1\ncells 8\n")?;
+        let (ended, output) = ran(alloc, words, input.as_slice())?;
+        assert_eq!(rt; ended, 0);
+        assert_eq!(rt; output.as_slice(), answer_with(alloc, parts)?.as_slice());
+    }
+    Ok(())
+}
+
+/// A statistic that reports nothing, and counts how often it is fed and dropped.
+struct Counted {
+    items: Vec<Item>,
+    feeds: Rc<Cell<u32>>,
+    drops: Rc<Cell<u32>>,
+}
+
+impl Drop for Counted {
+    fn drop(self) {
+        let Self {
+            items: _items,
+            feeds: _feeds,
+            drops,
+        } = self;
+        drops.set(drops.get().wrapping_add(1));
+    }
+}
+
+impl Statistic for Counted {
+    ghost use Rattle.std.specs.Prelude.{[], codes};
+
+    ghost named = { λ t. codes "counted" };
+
+    ghost fed = { λ t. t.items.items };
+
+    ghost reported = { λ t items. [] };
+
+    fn name(&self) -> &str {
+        "counted"
+    }
+
+    fn take(&mut self, item: &Item) -> Result<(), NoMemory> {
+        self.items.push(*item)?;
+        self.feeds.set(self.feeds.get().wrapping_add(1));
+        Ok(())
+    }
+
+    fn report(&self, _out: &mut Vec<u8>) -> Result<(), NoMemory> {
+        Ok(())
+    }
+}
+
+/// How often a statistic was fed and dropped.
+#[derive(Drop)]
+struct Counts {
+    feeds: Rc<Cell<u32>>,
+    drops: Rc<Cell<u32>>,
+}
+
+impl Counts {
+    fn new(alloc: Global) -> Result<Counts, AllocError> {
+        Ok(Counts {
+            feeds: Rc::new(alloc, Cell::new(0))?,
+            drops: Rc::new(alloc, Cell::new(0))?,
+        })
+    }
+
+    /// A statistic that is counted here.
+    fn statistic(&self, alloc: Global) -> Result<Counted, AllocError>
+        ensures { IfOk result (λ counted. counted.items.items ≡ []) }
+    {
+        Ok(Counted {
+            items: Vec::new(alloc),
+            feeds: self.feeds.clone()?,
+            drops: self.drops.clone()?,
+        })
+    }
+
+    fn get(&self) -> (u32, u32) {
+        (self.feeds.get(), self.drops.get())
+    }
+}
+
+/// The status of a run with two such statistics, which have one name.
+fn status_of_two(
+    alloc: Global,
+    words: &[String],
+    source: &mut MemorySource,
+    sink: &mut MemorySink,
+    first: Counted,
+    second: Counted,
+) -> Result<u8, AllocError>
+    requires first { first.items.items ≡ [] }
+    requires second { second.items.items ≡ [] }
+{
+    let mut stats: Vec<Box<dyn Statistic>> = Vec::new(alloc);
+    stats.push(Box::new(alloc, first)?)?;
+    stats.push(Box::new(alloc, second)?)?;
+    Ok(run(alloc, words, source, sink, stats).status)
+}
+
+/// The status of such a run, and how often the first and the second statistic were fed and dropped, where the reads
+/// and writes of these numbers fail.
+fn run_counted(
+    alloc: Global,
+    words: &[&str],
+    text: &str,
+    read: u64,
+    write: u64,
+) -> Result<(u8, (u32, u32), (u32, u32)), Fail> {
+    let words = strings(alloc, words)?;
+    let mut source = MemorySource::new(job(alloc, text)?, [read].to_vec(alloc)?, 4096);
+    let mut sink = MemorySink::new(alloc, ROOM, [write].to_vec(alloc)?, 4096)?;
+    let first = Counts::new(alloc)?;
+    let second = Counts::new(alloc)?;
+    let ended = status_of_two(
+        alloc,
+        words.as_slice(),
+        &mut source,
+        &mut sink,
+        first.statistic(alloc)?,
+        second.statistic(alloc)?,
+    )?;
+    Ok((ended, first.get(), second.get()))
+}
+
+#[test]
+fn statistics_are_dropped_once(rt: HostRuntime) -> Result<(), Fail> {
+    let whole = "type A 2\nshape 2 1\n";
+    let full = "type A 2\nshape 2 1\ncells 7\n";
+    for (words, text, read, write, status, feeds) in [
+        (["grow", "1", "counted"].as_slice(), whole, 9, 9, 0, 8),
+        (["grow", "1"].as_slice(), whole, 9, 9, 0, 0),
+        (["grow", "1", "ends"].as_slice(), whole, 9, 9, 1, 0),
+        (
+            ["grow", "1", "counted"].as_slice(),
+            "type A 9\n",
+            9,
+            9,
+            2,
+            0,
+        ),
+        (["grow", "1", "counted"].as_slice(), full, 9, 9, 3, 0),
+        (["grow", "1", "counted"].as_slice(), whole, 1, 9, 4, 0),
+        (["grow", "1", "counted"].as_slice(), whole, 9, 1, 5, 8),
+    ] {
+        let ended = run_counted(rt.alloc(), words, text, read, write)?;
+        assert!(rt; ended == (status, (feeds, 1), (0, 1)));
+    }
+    Ok(())
+}
