@@ -17,21 +17,22 @@ pub record PlainValue : Type 0 where
   pub front : List Event
   pub room : ℕ
 
--- the codes stand in the order of their cells, and each arrow of each cell has its word
+-- the codes stand in the order of their cells, and each arrow of each vertex has its word
 pub record IsKept (w : WorldType) (codes edges : List ℕ) (s : State) : Type 0 where
   pub count : length s.vertices ≡ length codes
   pub fits : length codes ≤ w.cells
   pub vertices : (c : ℕ) → vertex_at s.vertices c ≡ slice_get codes c
-  pub places : length edges ≡ w.cells * (2 * w.space.cartan.rank)
-  pub drawn : (c : ℕ) (a : Arrow) → c < w.cells → IsArrow w.space a →
+  pub places : length edges ≡ length codes * (2 * w.space.cartan.rank)
+  pub drawn : (c : ℕ) (a : Arrow) → c < length codes → IsArrow w.space a →
       slice_index edges (edge_place w.space.cartan.rank c a) ≡ edge_word (target_at s.drawn c a)
 
--- the lists are those of a legal history, and there is memory for a code in each cell
-pub record IsDesk (w : WorldType) (codes : List ℕ) (spare : ℕ) (edges : List ℕ) (h : List Event) : Type 0 where
+-- the lists are those of a legal history, and there is memory for a code and a row of words in each cell
+pub record IsDesk (w : WorldType) (codes : List ℕ) (spare : ℕ) (edges : List ℕ) (capacity : ℕ) (h : List Event) : Type 0 where
   pub world : IsWorld w
   pub legal : IsLegal w h
   pub kept : IsKept w codes edges (state_of h)
   pub memory : w.cells ≤ length codes + spare
+  pub rows : w.cells * (2 * w.space.cartan.rank) ≤ capacity
 
 -- the desk with further acts of its caller in the front
 abbrev pub with_acts : PlainValue → List Act → PlainValue

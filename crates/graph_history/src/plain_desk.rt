@@ -1,5 +1,5 @@
 //! A desk over lists in memory.
-ghost use Rattle.std.specs.Prelude.{◌≡◌, ◌≢◌, ℕ, ◌+◌, ◌-◌, ◌*◌, ◌<◌, ◌≤◌, ◌^◌, List, [], ◌∷◌, ◌++◌, length, slice_get, MatchOption, IfSome, IfOk, IsTrue, ◌↔◌, Some, None};
+ghost use Rattle.std.specs.Prelude.{◌≡◌, ◌≢◌, ℕ, ◌+◌, ◌-◌, ◌*◌, ◌<◌, ◌≤◌, ◌^◌, List, [], ◌∷◌, ◌++◌, length, replicate, slice_get, vec_len, vec_capacity, MatchOption, IfSome, IfOk, IsTrue, ◌↔◌, Some, None};
 ghost use Rattle.tensor_words.specs.Spaces.{size};
 ghost use Rattle.tensor_words.specs.Operators.{IsArrow, op};
 ghost use Rattle.tensor_words.specs.Worlds.{IsWorld};
@@ -33,7 +33,8 @@ const FIRST_TARGET: u32 = 2;
 /// A desk over lists in memory, for one thread. Its callers follow each other, each with a number of its own. Its bond
 /// is the list of the events of all other callers.
 ///
-/// A cell is the place at which its code was put in, and a word is looked up by hash.
+/// A cell is the place at which its code was put in, and a word is looked up by hash. The arrows of a cell get their
+/// words when its vertex comes.
 #[derive(Drop)]
 pub struct PlainDesk {
     world: World,
@@ -45,6 +46,7 @@ pub struct PlainDesk {
 }
 
 impl Model for PlainDesk {
+    ghost use Rattle.std.specs.Prelude.{vec_capacity};
     ghost use Rattle.indexmap.specs.IndexSet.{spare};
     ghost use Rattle.graph_history.specs.Plain.{PlainValue, IsDesk};
 
@@ -52,7 +54,7 @@ impl Model for PlainDesk {
 
     ghost view = { λ d. record { world = d.world; caller = d.caller; front = d.journal; room = d.room } };
 
-    ghost invariant = { λ d. IsDesk d.world d.codes.keys (spare d.codes) d.edges.items d.journal };
+    ghost invariant = { λ d. IsDesk d.world d.codes.keys (spare d.codes) d.edges.items (vec_capacity d.edges) d.journal };
 }
 
 /// The word of an arrow that leads to this cell, or to zero.
@@ -66,6 +68,17 @@ fn word_of(to: Option<u32>) -> u32
     }
 }
 
+/// Appends the row of a new vertex, whose arrows are not drawn. No memory is taken.
+fn push_row(edges: &mut Vec<u32>, row: usize)
+    requires { vec_len edges.old + row ≤ vec_capacity edges.old }
+    ensures items { edges.new.items ≡ edges.old.items ++ replicate row 0 }
+    ensures capacity { vec_capacity edges.old ≤ vec_capacity edges.new }
+{
+    if edges.resize(edges.len() + row, UNDRAWN).is_err() {
+        unreachable!();
+    }
+}
+
 impl PlainDesk {
     /// A desk whose front is empty and whose caller has this number. All its memory is taken here.
     pub fn new(alloc: Global, world: World, caller: u64) -> Result<PlainDesk, NoMemory>
@@ -74,7 +87,7 @@ impl PlainDesk {
         let cells = world.cells() as usize;
         let row = 2 * world.space().cartan().rank() as usize;
         let codes = IndexSet::with_capacity(alloc, cells)?;
-        let edges = Vec::from_elem(alloc, UNDRAWN, cells * row)?;
+        let edges = Vec::with_capacity(alloc, cells * row)?;
         let journal = Journal::new(alloc, &world)?;
         Ok(PlainDesk {
             world,
@@ -166,10 +179,10 @@ impl PlainDesk {
 
     /// The place of the word of this arrow.
     fn place(&self, cell: u32, arrow: Arrow) -> usize
-        requires cell { cell < self.now.world.cells }
+        requires cell { cell < length (state_of self.now.front).vertices }
         requires arrow { IsArrow self.now.world.space arrow }
         ensures place { result ≡ edge_place self.now.world.space.cartan.rank cell arrow }
-        ensures fits { result < self.now.world.cells * (2 * self.now.world.space.cartan.rank) }
+        ensures fits { result < length (state_of self.now.front).vertices * (2 * self.now.world.space.cartan.rank) }
     {
         let rank = self.world.space().cartan().rank() as usize;
         let index = arrow.index as usize - 1;
@@ -201,9 +214,11 @@ impl PlainDesk {
         ensures { self.new ≡ with_acts self.old (AddedAct result code origin ∷ []) }
     {
         let cell = self.codes.len() as u32;
+        let row = 2 * self.world.space().cartan().rank() as usize;
         if self.codes.insert(code).is_err() {
             unreachable!();
         }
+        push_row(&mut self.edges, row);
         self.journal.note(Event {
             caller: self.caller,
             act: Act::Added { cell, code, origin },

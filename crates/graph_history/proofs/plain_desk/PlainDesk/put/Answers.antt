@@ -6,7 +6,7 @@ use Rattle.graph_history.proofs.Keeping.{desk_put}
 use Rattle.graph_history.proofs.plain_desk.PlainDesk.put.Goals as goal
 
 pub invariant_of-self : goal.invariant_of-self
-invariant_of-self c = desk_put _ _ _ _ _ c.self.invariant c.self.inside.caller c.args.code c.args.origin _ _ _ (search rules) (search rules) c.insert.ensures.spare
+invariant_of-self c = desk_put _ _ _ _ _ _ c.self.invariant c.self.inside.caller c.args.code c.args.origin _ _ _ _ _ (search rules) (search rules) c.insert.ensures.spare (search rules) (search rules)
     (subst (λ (v : PlainValue). c.args.code < size v.world.space) (sym c.self.view_is) c.requires.word)
     (subst (λ (v : PlainValue). IsNew (state_of v.front) c.args.code) (sym c.self.view_is) c.requires.fresh)
     (subst (λ (v : PlainValue). length (state_of v.front).vertices ≢ v.world.cells) (sym c.self.view_is) c.requires.free)
