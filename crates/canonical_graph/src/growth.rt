@@ -1,11 +1,11 @@
 //! Growth on one thread.
-ghost use Rattle.std.specs.Prelude.{◌≡◌, ℕ, ◌+◌, ◌^◌, ◌<◌, ◌≤◌, [], true, false, length, IfOk, OnOk, IsErrOf, MatchOption, nat_eq};
+ghost use Rattle.std.specs.Prelude.{◌≡◌, ℕ, ◌+◌, ◌^◌, ◌<◌, ◌≤◌, [], true, false, length, IfOk, IfSome, OnOk, IsErrOf, MatchOption, nat_eq};
 ghost use Rattle.std.specs.List.{IsDistinct};
 ghost use Rattle.std.specs.Option.{option_map};
 ghost use Rattle.crystal_cartan.specs.Types.{HasIndex};
 ghost use Rattle.tensor_words.specs.Spaces.{IsSpace, size};
 ghost use Rattle.tensor_words.specs.Codes.{IsWord, code_of, word_of};
-ghost use Rattle.tensor_words.specs.Operators.{IsArrow, acted, op};
+ghost use Rattle.tensor_words.specs.Operators.{op};
 ghost use Rattle.tensor_words.specs.Worlds.{IsWorld};
 ghost use Rattle.tensor_words.specs.Reach.{IsComponentList, Outnumber};
 ghost use Rattle.canonical_graph.specs.Growth.{Follows, Expands, HasRoots, IsFrontier, IsWhole, IsSortedFrom, IsGrown, AreNotes, AddsNotes, IsNote, noted_in};
@@ -14,8 +14,7 @@ use crate::finished::Finished;
 use crate::found::Found;
 use crate::nexts::{Growth, NO_PLACE, Nexts};
 use crate::tables::{targets_of_growth, word_with};
-use crystal_cartan::Arrow;
-use signature_rule::act;
+use signature_rule::act_both;
 use std::alloc::{AllocError, Global};
 use tensor_words::{Space, Word, World};
 
@@ -100,27 +99,26 @@ fn expand(space: &Space, code: u64, found: &mut Found, nexts: &mut Nexts) -> Res
 {
     let word = word_with(space, code);
     'indices: for place in 0..space.cartan().rank() {
-        let index = place + 1;
-        let lowered = follow(space, &word, Arrow { down: true, index }, found)?;
-        let raised = follow(space, &word, Arrow { down: false, index }, found)?;
+        let both = act_both(space, &word, place + 1);
+        let lowered = follow(space, &both.lowered, found)?;
+        let raised = follow(space, &both.raised, found)?;
         nexts.push(lowered, raised)?;
     }
     Ok(())
 }
 
-/// Adds the code of what an operator makes of a word, and gives its note.
-fn follow(space: &Space, word: &Word, arrow: Arrow, found: &mut Found) -> Result<u32, AllocError>
-    requires word { IsWord space.now word.now }
-    requires arrow { IsArrow space.now arrow }
+/// Adds the code of what an operator made of a word, and gives its note.
+fn follow(space: &Space, next: &Option<Word>, found: &mut Found) -> Result<u32, AllocError>
+    requires word { IfSome next.now (IsWord space.now) }
     requires room { length found.old ≤ 2 ^ 21 }
-    ensures follows { OnOk result (Follows space.now (option_map (code_of space.now) (acted space.now arrow word.now)) found.old found.new) }
-    ensures note { IfOk result (λ note. noted_in found.new note ≡ option_map (code_of space.now) (acted space.now arrow word.now)) }
+    ensures follows { OnOk result (Follows space.now (option_map (code_of space.now) next.now) found.old found.new) }
+    ensures note { IfOk result (λ note. noted_in found.new note ≡ option_map (code_of space.now) next.now) }
     ensures placed { IfOk result (λ note. IsNote (length found.new) note) }
     ensures few { OnOk result (length found.new ≤ length found.old + 1) }
 {
-    match act(space, word, arrow) {
-        Some(next) => {
-            let place = found.add(space.code_of(&next))?;
+    match next {
+        Some(word) => {
+            let place = found.add(space.code_of(word))?;
             Ok(place as u32)
         }
         None => Ok(NO_PLACE),

@@ -1,3 +1,4 @@
 pub mod Signs
 pub mod PassSteps
+pub mod BothPasses
 pub mod Lifting

@@ -18,7 +18,7 @@ use Rattle.tensor_words.proofs.WordWeights.{seminormal_word}
 abbrev pub factor_acts : SpaceType → ℕ → ℕ → List (Action ℕ)
 factor_acts s i k = acts_from (base_action s.cartan i) s.factors k
 
-none_left : (s : SpaceType) (i : ℕ) (k : ℕ) → length s.factors ≤ k → factor_acts s i k ≡ []
+pub none_left : (s : SpaceType) (i : ℕ) (k : ℕ) → length s.factors ≤ k → factor_acts s i k ≡ []
 none_left s i k all = rw (drop_all k s.factors all) refl
 
 -- m signs eps are open before the place k
@@ -74,6 +74,9 @@ module _ (s : SpaceType) (i : ℕ) (w : List ℕ) (k m e f : ℕ) (found : Optio
     same = rw (sym test, signs.eps, signs.phi) (sym (last_phi_step (base_action s.cartan i) s.factors w k signs.below (omega (arith, length_word s w signs.word, signs.below)) m found) ∙ p.same);
   }
 
+  pub lower_next : IsLowerPass s i w (k + 1) (m - f + e) (if nat_lt m f then Some k else found)
+  lower_next = lower_step (nat_lt m f) refl
+
   pub lower_here : m < f → IsLowerPass s i w (k + 1) (m - f + e) (Some k)
   lower_here more = lower_step true (grind (arith, nat_tests))
 
@@ -121,11 +124,11 @@ module _ (s : SpaceType) (i : ℕ) (w : List ℕ) (k m e f : ℕ) (found : Optio
   pub raise_not_here : e ≤ m → IsRaisePass s i w k (m - e + f) found
   raise_not_here less = raise_step false (grind (arith, nat_tests))
 
-pub raise_end : (s : SpaceType) (i : ℕ) (w : List ℕ) (m : ℕ) (found : Option ℕ) → IsRaisePass s i w 0 m found
+pub raise_placed : (s : SpaceType) (i : ℕ) (w : List ℕ) (found : Option ℕ) → found ≡ first_eps_from (base_action s.cartan i) s.factors w 0
     → MatchOption found ((action s i).raise w ≡ None) (IsRaisePlace s i w)
 unfolding action
-raise_end s i w m found p =
-    rw (p.same ∙ unshifted (first_eps (factor_acts s i 0) w))
+raise_placed s i w found is =
+    rw (is ∙ unshifted (first_eps (factor_acts s i 0) w))
     (placed (first_eps (factor_acts s i 0) w) (raise_at (base_action s.cartan i) s.factors w))
   where
     unshifted : (o : Option ℕ) → option_map (λ p. 0 + p) o ≡ o
@@ -136,3 +139,7 @@ raise_end s i w m found p =
         → MatchOption o (word_raise (factor_acts s i 0) w ≡ None) (IsRaisePlace s i w)
     placed None h = h
     placed (Some p) h = record { below = h.below; acts = h.value }
+
+pub raise_end : (s : SpaceType) (i : ℕ) (w : List ℕ) (m : ℕ) (found : Option ℕ) → IsRaisePass s i w 0 m found
+    → MatchOption found ((action s i).raise w ≡ None) (IsRaisePlace s i w)
+raise_end s i w m found p = raise_placed s i w found p.same

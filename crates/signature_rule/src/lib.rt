@@ -7,11 +7,13 @@
 #![tactic(auto)]
 
 mod laws;
+mod neighbours;
 mod operators;
 mod raising;
 #[cfg(test)]
 mod tests;
 
 pub use laws::word_laws;
+pub use neighbours::{Neighbours, act_both};
 pub use operators::{act, eps, lower, next_code, phi, raise};
 pub use raising::lift;

@@ -13,9 +13,9 @@ use tensor_words::{Space, Word};
 
 /// The signs that one factor writes: phi signs phi, and then eps signs eps.
 #[derive(Clone, Copy)]
-struct Signs {
-    phi: u32,
-    eps: u32,
+pub(crate) struct Signs {
+    pub(crate) phi: u32,
+    pub(crate) eps: u32,
 }
 
 /// How often e_i can be applied to the word.
@@ -57,9 +57,7 @@ pub fn lower(space: &Space, word: &Word, i: u8) -> Option<Word>
     ensures value { result ≡ (action space.now i).lower word.now }
     ensures word { IfSome result (IsWord space.now) }
 {
-    let place = lower_place(space, word, i)?;
-    let digit = space.digit_lower(place, word.digit(place), i)?;
-    Some(space.put(word, place, digit))
+    lowered_at(space, word, i, lower_place(space, word, i))
 }
 
 /// The raising operator e_i on a word, `None` where it gives zero.
@@ -69,9 +67,7 @@ pub fn raise(space: &Space, word: &Word, i: u8) -> Option<Word>
     ensures value { result ≡ (action space.now i).raise word.now }
     ensures word { IfSome result (IsWord space.now) }
 {
-    let place = raise_place(space, word, i)?;
-    let digit = space.digit_raise(place, word.digit(place), i)?;
-    Some(space.put(word, place, digit))
+    raised_at(space, word, i, raise_place(space, word, i))
 }
 
 /// The operator of an arrow on a word, `None` where it gives zero.
@@ -139,8 +135,42 @@ fn raise_place(space: &Space, word: &Word, i: u8) -> Option<u8>
     found
 }
 
+/// The word lowered at the place where f_i acts on it.
+pub(crate) fn lowered_at(space: &Space, word: &Word, i: u8, place: Option<u8>) -> Option<Word>
+    requires word { IsWord space.now word.now }
+    requires index { HasIndex space.now.cartan i }
+    requires place { MatchOption place ((action space.now i).lower word.now ≡ None) (IsLowerPlace space.now i word.now) }
+    ensures value { result ≡ (action space.now i).lower word.now }
+    ensures word { IfSome result (IsWord space.now) }
+{
+    match place {
+        Some(place) => {
+            let digit = space.digit_lower(place, word.digit(place), i)?;
+            Some(space.put(word, place, digit))
+        }
+        None => None,
+    }
+}
+
+/// The word raised at the place where e_i acts on it.
+pub(crate) fn raised_at(space: &Space, word: &Word, i: u8, place: Option<u8>) -> Option<Word>
+    requires word { IsWord space.now word.now }
+    requires index { HasIndex space.now.cartan i }
+    requires place { MatchOption place ((action space.now i).raise word.now ≡ None) (IsRaisePlace space.now i word.now) }
+    ensures value { result ≡ (action space.now i).raise word.now }
+    ensures word { IfSome result (IsWord space.now) }
+{
+    match place {
+        Some(place) => {
+            let digit = space.digit_raise(place, word.digit(place), i)?;
+            Some(space.put(word, place, digit))
+        }
+        None => None,
+    }
+}
+
 /// The signs of the factor at this place, counted from 0.
-fn signs_at(space: &Space, word: &Word, i: u8, place: u8) -> Signs
+pub(crate) fn signs_at(space: &Space, word: &Word, i: u8, place: u8) -> Signs
     requires word { IsWord space.now word.now }
     requires index { HasIndex space.now.cartan i }
     requires place { place < length space.now.factors }

@@ -55,7 +55,10 @@ fn agree_at(space: &Space, word: &Word, i: u8) -> bool
     requires word { IsWord space.now word.now }
     requires index { HasIndex space.now.cartan i }
 {
-    lower(space, word, i) == space.by_rule_lower(word, i)
+    let both = act_both(space, word, i);
+    both.lowered == space.by_rule_lower(word, i)
+        && both.raised == space.by_rule_raise(word, i)
+        && lower(space, word, i) == space.by_rule_lower(word, i)
         && raise(space, word, i) == space.by_rule_raise(word, i)
         && eps(space, word, i) == space.by_rule_eps(word, i)
         && phi(space, word, i) == space.by_rule_phi(word, i)

@@ -1,4 +1,6 @@
-use Rattle.std.proofs.Common.{◌∙◌, subst, ℕ, ◌+◌, ◌++◌, true, false, Option, arith}
+use Rattle.std.proofs.Common.{◌∙◌, ap, subst, ℕ, ◌+◌, ◌++◌, true, false, Option, arith}
+use Rattle.std.specs.Option.{option_map}
+use Rattle.tensor_words.specs.Codes.{code_of}
 use Rattle.canonical_graph.specs.Growth.{Follows}
 use Rattle.canonical_graph.specs.Tables.{arrow_to}
 use Rattle.canonical_graph.proofs.Expanding.{op_at, expands_more}
@@ -13,8 +15,12 @@ indices-preserved c =
     let mid = c.indices.found in
     let half = c.follow.new.found in
     let new = c.follow-in-indices.new.found in
-    let low = op_at s (arrow_to true (n + 1)) c.args.code c.word_with-word.result c.word_with-word.ensures.value in
-    let high = op_at s (arrow_to false (n + 1)) c.args.code c.word_with-word.result c.word_with-word.ensures.value in
+    let low =
+    ap (option_map (code_of s)) c.act_both-both.ensures.lowered
+    ∙ op_at s (arrow_to true (n + 1)) c.args.code c.word_with-word.result c.word_with-word.ensures.value in
+    let high =
+    ap (option_map (code_of s)) c.act_both-both.ensures.raised
+    ∙ op_at s (arrow_to false (n + 1)) c.args.code c.word_with-word.result c.word_with-word.ensures.value in
     let first = subst (λ (o : Option ℕ). Follows s o mid half) low c.in_ok-lowered.ensures.follows in
     let second = subst (λ (o : Option ℕ). Follows s o half new) high c.in_ok-raised.ensures.follows in
     let grown = two_more mid half new first.more second.more first.is second.is in
