@@ -310,4 +310,5 @@ def main():
     print(f"{count} jobs have the same answer ({full} of them full), {vertices} lines")
 
 
-main()
+if __name__ == "__main__":
+    main()
