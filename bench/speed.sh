@@ -1,6 +1,7 @@
 #!/usr/bin/env bash
-# Times the program beside the yardstick (bench/yardstick.rs, plain Rust) on the same jobs in one run, best of several,
-# checks that both print the same bytes, and prints the ratio of whole-program times and the time per vertex.
+# Times the program beside the yardstick (bench/yardstick.rs, plain Rust) on the same jobs in one run: CPU time, user and
+# system, the least of several runs of each. Prints their ratio and the time a vertex, for the jobs of bench/jobs, with
+# statistics, with sessions and in Kashiwara's order, and checks that both print the same bytes.
 #
 # Usage: bench/speed.sh [RUNS]    (5 runs where none is given)
 set -u
@@ -11,29 +12,66 @@ mkdir -p bench/out
 rustc --edition 2021 -C opt-level=3 -o bench/out/yardstick bench/yardstick.rs || exit 1
 ./crystal grow 1 < jobs/first.job > /dev/null || exit 1
 python3 - "$runs" <<'PY'
-import subprocess, sys, time
+import resource, subprocess, sys
 from pathlib import Path
 
 runs = int(sys.argv[1])
 commands = {"yardstick": ["bench/out/yardstick"], "program": ["crates/crystal_shell/out/crystal_shell", "grow", "1"]}
-print(f"{'job':8} {'vertices':>9} {'yardstick ms':>13} {'program ms':>11} {'ratio':>6} {'ns a vertex':>12}")
-worst = 0.0
-for job in ("a4", "d4", "a5", "c4", "d5"):
-    text = Path(f"bench/jobs/{job}.job").read_bytes()
+statistics = ["character", "strings", "ends"]
+
+
+def job(name):
+    return Path(f"bench/jobs/{name}.job").read_text()
+
+
+def with_sessions(text):
+    """The job with sixteen sessions of 1,000 commands each, on words of its own graph."""
+    said = subprocess.run(commands["yardstick"], input=text.encode(), capture_output=True).stdout.decode()
+    words = [line.split(" | ")[1] for line in said.split("\n") if " | " in line][::29]
+    lines = []
+    for session in range(16):
+        lines.append("session")
+        for k in range(500):
+            word, index = words[(7 * session + k) % len(words)], k % 4 + 1
+            lines.append(f"add {word}" if k % 5 == 0 else f"f {index} {word}")
+            lines.append((f"look e {index} {word}", f"wt {word}", f"eps {index} {word}", f"find {word}")[k % 4])
+    return text + "\n".join(lines) + "\n"
+
+
+def in_the_second_order(text):
+    header, kind, rest = text.split("\n", 2)
+    return f"crystal-job 2\n{kind}\norder kashiwara\n{rest}"
+
+
+cases = [(name, job(name), []) for name in ("a4", "d4", "a5", "c4", "d5")]
+cases += [("c4, statistics", job("c4"), statistics), ("c4, sessions", with_sessions(job("c4")), []),
+          ("c4, kashiwara", in_the_second_order(job("c4")), [])]
+
+
+def measured(command, text):
+    """The CPU time of a run, and what it printed."""
+    before = resource.getrusage(resource.RUSAGE_CHILDREN)
+    said = subprocess.run(command, input=text.encode(), capture_output=True).stdout
+    after = resource.getrusage(resource.RUSAGE_CHILDREN)
+    return after.ru_utime + after.ru_stime - before.ru_utime - before.ru_stime, said
+
+
+print(f"{'job':15} {'vertices':>9} {'yardstick ms':>13} {'program ms':>11} {'ratio':>6} {'ns a vertex':>12}")
+worst, differ = 0.0, False
+for name, text, words in cases:
     best, said = {}, {}
     for _ in range(runs):
-        for name, command in commands.items():
-            begin = time.perf_counter()
-            said[name] = subprocess.run(command, input=text, capture_output=True).stdout
-            took = time.perf_counter() - begin
-            best[name] = min(best.get(name, took), took)
-    vertices = int(said["yardstick"].split(b"\n")[1].split()[1])
+        for who, command in commands.items():
+            took, said[who] = measured(command + words, text)
+            best[who] = min(best.get(who, took), took)
+    counts = [line.split() for line in said["yardstick"].split(b"\n") if line.startswith(b"graph ")]
+    vertices = int(counts[0][1]) if counts else 0
     same = said["yardstick"] == said["program"]
+    differ = differ or not same
     ratio = best["program"] / best["yardstick"]
     worst = max(worst, ratio)
-    print(f"{job:8} {vertices:9} {best['yardstick'] * 1e3:13.1f} {best['program'] * 1e3:11.1f} {ratio:6.2f} "
-          f"{best['program'] * 1e9 / vertices:12.0f} {'' if same else 'TEXTS DIFFER'}")
-    if not same:
-        sys.exit(1)
+    print(f"{name:15} {vertices:9} {best['yardstick'] * 1e3:13.1f} {best['program'] * 1e3:11.1f} {ratio:6.2f} "
+          f"{best['program'] * 1e9 / max(1, vertices):12.0f} {'' if same else 'TEXTS DIFFER'}", flush=True)
 print(f"worst ratio {worst:.2f}")
+sys.exit(1 if differ else 0)
 PY

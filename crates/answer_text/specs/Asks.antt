@@ -1,6 +1,8 @@
 -- The answers to asks about a finished graph. Each line ends with byte 10.
 use Rattle.std.specs.Prelude.{ℕ, List, ◌∷◌, ◌++◌, length, codes, decimal, ℤ}
 use Rattle.std.specs.List.{flat_map}
+use Rattle.tensor_words.specs.declared.spaces.Order.{Order}
+use Rattle.tensor_words.specs.declared.spaces.Order.TheVariants.{Standard, Kashiwara}
 use Rattle.tableau_reading.specs.Shapes.{ShapeType, shape_space}
 use Rattle.tableau_reading.specs.Readings.{top_word}
 use Rattle.tableau_reading.specs.Texts.{word_text, weight_text}
@@ -36,9 +38,15 @@ demazure_text f indices ranks =
 unfoldable pub shape_text : ShapeType → List ℕ
 shape_text shape = word_text (shape_space shape) (top_word shape)
 
--- a product top: the word of a vertex followed by the top word of a shape, and a weight, as `WORD | WEIGHT`
+-- the word of a vertex and the top word of a shape as one word, in the tensor order of the graph: the vertex first in the
+-- standard order, last in Kashiwara's
+abbrev pub product_text : Order → List ℕ → List ℕ → List ℕ
+product_text Standard vertex top = vertex ++ 32 ∷ top
+product_text Kashiwara vertex top = top ++ 32 ∷ vertex
+
+-- a product top: the word of both, and a weight, as `WORD | WEIGHT`
 unfoldable pub top_line : FinishedType → List ℕ → ℕ → List ℤ → List ℕ
-top_line f top rank weight = word_text f.space (vertex_word f rank) ++ 32 ∷ top ++ bar ++ weight_text weight
+top_line f top rank weight = product_text f.space.order (word_text f.space (vertex_word f rank)) top ++ bar ++ weight_text weight
 
 -- the product tops with a shape: the ranks of their vertices, each with its weight
 unfoldable pub tops_text : FinishedType → ShapeType → List (ℕ × List ℤ) → List ℕ

@@ -1,16 +1,19 @@
 //! Answers to asks about a finished graph.
-ghost use Rattle.std.specs.Prelude.{◌≡◌, ◌+◌, ◌*◌, ◌^◌, ◌≤◌, ◌<◌, ◌++◌, length, All, OnOk};
+ghost use Rattle.std.specs.Prelude.{◌≡◌, ◌+◌, ◌*◌, ◌^◌, ◌≤◌, ◌<◌, ◌++◌, ◌∷◌, length, All, OnOk};
 ghost use Rattle.std.specs.List.{flat_map};
 ghost use Rattle.crystal_cartan.specs.Types.{HasIndex};
 ghost use Rattle.crystal_cartan.specs.Weights.{IsSmall};
+ghost use Rattle.tableau_reading.specs.Texts.{word_text};
+ghost use Rattle.canonical_graph.specs.Texts.{vertex_word};
 ghost use Rattle.answer_text.specs.Texts.{ended, numbered};
-ghost use Rattle.answer_text.specs.Asks.{listed, demazure_head, member_line, demazure_text, tops_head, shape_text, top_line, tops_text, reflection_head, image_line, reflection_text};
+ghost use Rattle.answer_text.specs.Asks.{listed, product_text, demazure_head, member_line, demazure_text, tops_head, shape_text, top_line, tops_text, reflection_head, image_line, reflection_text};
 
 use crate::lines::{print_behind_blank, push_line};
 use canonical_graph::Finished;
 use crystal_cartan::Weight;
 use crystal_streams::{Line, NoMemory};
 use tableau_reading::{Shape, print_weight, print_word};
+use tensor_words::Order;
 
 /// Appends a Demazure subset: `demazure I1 I2 .. | COUNT`, and `RANK | WORD` for each member.
 #[tactic(auto, unfolding(crate::specs::Asks::demazure_text))]
@@ -84,7 +87,8 @@ fn member_line(finished: &Finished, rank: u32) -> Line
 }
 
 /// Appends the product tops with a shape: `tops N1 N2 .. | COUNT` with the lengths of its rows, and `WORD | WEIGHT`
-/// for each top.
+/// for each top. The word is that of the vertex followed by the top word of the shape, in Kashiwara's tensor order the
+/// other way round.
 #[tactic(auto, unfolding(crate::specs::Asks::tops_text))]
 pub fn push_tops(
     out: &mut Vec<u8>,
@@ -162,12 +166,48 @@ fn top_line(finished: &Finished, word: &Line, rank: u32, weight: &Weight) -> Lin
     requires small { IsSmall weight.now }
     ensures { result ≡ top_line finished.now word.now rank weight.now }
 {
-    let mut line = Line::new();
-    print_word(finished.space(), &finished.word_at(rank), &mut line);
-    line.text(b" ");
-    line.text(word.bytes());
+    let vertex = word_line(finished, rank);
+    let mut line = product_line(finished.space().order(), &vertex, word);
     line.text(b" | ");
     print_weight(weight, &mut line);
+    line
+}
+
+/// The word of a vertex, in a line of its own.
+fn word_line(finished: &Finished, rank: u32) -> Line
+    requires { rank < length finished.now.codes }
+    ensures text { result ≡ word_text finished.now.space (vertex_word finished.now rank) }
+    ensures fits { length result ≤ 160 }
+{
+    let mut line = Line::new();
+    print_word(finished.space(), &finished.word_at(rank), &mut line);
+    line
+}
+
+/// The word of a vertex and the top word of a shape as one word, in this tensor order.
+fn product_line(order: Order, vertex: &Line, word: &Line) -> Line
+    requires vertex { length vertex.now ≤ 160 }
+    requires word { length word.now ≤ 160 }
+    ensures text { result ≡ product_text order vertex.now word.now }
+    ensures fits { length result ≤ 321 }
+{
+    match order {
+        Order::Standard => joined(vertex, word),
+        Order::Kashiwara => joined(word, vertex),
+    }
+}
+
+/// Two words with a blank between them.
+fn joined(first: &Line, second: &Line) -> Line
+    requires first { length first.now ≤ 160 }
+    requires second { length second.now ≤ 160 }
+    ensures text { result ≡ first.now ++ 32 ∷ second.now }
+    ensures fits { length result ≤ 321 }
+{
+    let mut line = Line::new();
+    line.text(first.bytes());
+    line.text(b" ");
+    line.text(second.bytes());
     line
 }
 

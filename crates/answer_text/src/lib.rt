@@ -1,5 +1,12 @@
 //! The parts of the answer text, line by line, behind a vector of bytes. Nothing is computed here: what is printed is
 //! handed in.
+//!
+//! **Promises.** Each call appends just the text that specs/Texts.antt and specs/Asks.antt give to what is handed in,
+//! each line with its end, or wants memory. `heads` has the first and the last line and the refusals, `sessions` the
+//! replies, `graphs` the graph and the statistics, `asks` the answers to asks; `lines` is the module to read first.
+//!
+//! **Stands on** canonical_graph and session_desk for the text of a vertex and of a reply, tableau_reading for words and
+//! weights, crystal_streams for a line.
 #![tactic(auto)]
 
 mod asks;

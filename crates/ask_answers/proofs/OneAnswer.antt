@@ -9,7 +9,7 @@ use Rattle.canonical_graph.specs.Graphs.{FinishedType}
 use Rattle.answer_text.specs.Asks.{demazure_text, reflection_text}
 use Rattle.job_text.specs.declared.commands.Ask.{Ask}
 use Rattle.job_text.specs.declared.commands.Ask.TheVariants.{Demazure, Tops, Reflect}
-use Rattle.ask_answers.specs.Answers.{IsSubset, IsImages, IsAnswer, AreAnswers, AnswersAreOne}
+use Rattle.ask_answers.specs.Answers.{IsSubset, IsImages, IsAskAnswer, AreAnswers, AnswersAreOne}
 
 one_subset : (f : FinishedType) (b : ℕ) (indices ranks others : List ℕ) → IsSubset f b indices ranks → IsSubset f b indices others → ranks ≡ others
 one_subset f b indices ranks others p q =
@@ -22,7 +22,7 @@ one_list_of_images f i images others p q = same_number_lists images others (p.si
     let same : Some (get_or images rank 0) ≡ Some (get_or others rank 0) = sym (p.each rank below) ∙ q.each rank below in
     cc)
 
-one_answer : (f : FinishedType) (b : ℕ) (ask : Ask) (text other : List ℕ) → IsAnswer f b ask text → IsAnswer f b ask other → text ≡ other
+one_answer : (f : FinishedType) (b : ℕ) (ask : Ask) (text other : List ℕ) → IsAskAnswer f b ask text → IsAskAnswer f b ask other → text ≡ other
 one_answer f b (Demazure indices) text other (ranks, is, shown) (others, like, told) =
     shown ∙ ap (demazure_text f indices) (one_subset f b indices ranks others is like) ∙ sym told
 one_answer f b (Tops shape) text other shown told = shown ∙ sym told
@@ -35,7 +35,7 @@ answers_one f b (ask ∷ asks) text other (first, rest, is, are, shown) (head, t
     shown ∙ ap₂ (λ xs ys. xs ++ ys) (one_answer f b ask first head is like) (answers_one f b asks rest tail are alike) ∙ sym told
 
 -- one more answer
-pub answers_more : (f : FinishedType) (b : ℕ) (asks : List Ask) (ask : Ask) (text more : List ℕ) → AreAnswers f b asks text → IsAnswer f b ask more
+pub answers_more : (f : FinishedType) (b : ℕ) (asks : List Ask) (ask : Ask) (text more : List ℕ) → AreAnswers f b asks text → IsAskAnswer f b ask more
     → AreAnswers f b (asks ++ ask ∷ []) (text ++ more)
 answers_more f b [] ask text more none is = (more, [], is, refl, ap (λ xs. xs ++ more) none ∙ sym (append-nil more))
 answers_more f b (first ∷ asks) ask text more (head, tail, like, alike, told) is =
@@ -43,7 +43,7 @@ answers_more f b (first ∷ asks) ask text more (head, tail, like, alike, told) 
 
 -- the answers to the asks before a place, with that of the ask there
 pub answers_to : (f : FinishedType) (b : ℕ) (asks : List Ask) (place : ℕ) (ask : Ask) (text more : List ℕ) → slice_get asks place ≡ Some ask
-    → AreAnswers f b (take place asks) text → IsAnswer f b ask more → AreAnswers f b (take (place + 1) asks) (text ++ more)
+    → AreAnswers f b (take place asks) text → IsAskAnswer f b ask more → AreAnswers f b (take (place + 1) asks) (text ++ more)
 answers_to f b asks place ask text more there are is =
     let next : take (place + 1) asks ≡ take place asks ++ ask ∷ [] =
     take_more asks place ask (slice_get_within asks place ask there) ∙ ap (λ a. take place asks ++ a ∷ []) (get_or_from_slice_get asks place ask ask there) in

@@ -1,49 +1,26 @@
 -- What the weight of a shape gives to the tops beside it: whole pairings that are not negative, and small sums.
-use Rattle.std.proofs.Common.{◌≡◌, subst, ℕ, ◌*◌, ◌≤◌, ◌<◌, List, [], ◌∷◌, length, map, replicate, get_or, ℤ, pos, ◌≤ℤ◌, All, arith}
+use Rattle.std.proofs.Common.{◌≡◌, subst, ℕ, ◌*◌, ◌≤◌, ◌<◌, List, length, get_or, ℤ, pos, ◌≤ℤ◌, All, arith}
 use Rattle.std.specs.List.{range_with_len}
 use Rattle.std.proofs.lemmas.Int.{ints}
 use Rattle.std.proofs.lemmas.List.Elements.{All-map, All-filter}
 use Rattle.std.proofs.lemmas.List.FromFn.{length-range_with_len, get_or-range_with_len}
-use Rattle.crystal_cartan.specs.Types.{CartanType, HasIndex, coordinates, coordinates_of}
-use Rattle.crystal_cartan.specs.declared.types.Kind.{Kind}
-use Rattle.crystal_cartan.specs.declared.types.Kind.TheVariants.{A, B, C, D}
+use Rattle.crystal_cartan.specs.Types.{HasIndex}
 use Rattle.crystal_cartan.specs.Weights.{twice_pairing, IsPairing, IsDominant, IsSmall, sum_of}
-use Rattle.vector_crystals.specs.Letters.{letter_count_of}
-use Rattle.tensor_words.specs.declared.spaces.Factor.TheVariants.{Vector}
-use Rattle.tensor_words.specs.Spaces.{IsSpace, IsWithin, base_size, word_weight}
-use Rattle.tensor_words.specs.Codes.{AreDigits, IsWord}
+use Rattle.tensor_words.specs.Spaces.{IsSpace, IsWithin, word_weight}
 use Rattle.tensor_words.specs.TensorRule.{action}
 use Rattle.tensor_words.proofs.Sums.{small_within}
 use Rattle.tensor_words.proofs.KeptWords.{factors_of_space}
 use Rattle.tensor_words.proofs.WordWeights.{seminormal_word}
 use Rattle.tableau_reading.specs.Shapes.{ShapeType, IsShape, shape_space, shape_weight}
-use Rattle.tableau_reading.specs.Readings.{Box, boxes, width, top_word}
+use Rattle.tableau_reading.specs.Readings.{top_word}
 use Rattle.tableau_reading.proofs.VectorSpaces.{shape_is_space}
-use Rattle.tableau_reading.proofs.HighestTops.{AreSteps, top_steps, length-top, top_is_highest}
+use Rattle.tableau_reading.proofs.HighestTops.{top_is_word, top_is_highest}
 use Rattle.tableau_reading.proofs.TopWeights.{top_has_weight}
 use Rattle.canonical_graph.specs.Graphs.{FinishedType, IsFinished}
 use Rattle.canonical_graph.specs.Texts.{vertex_word}
 use Rattle.crystal_subsets.specs.ProductTops.{is_top_beside, top_entry, top_ranks, tops_beside}
 use Rattle.crystal_subsets.proofs.TensorTops.{word_pairings}
 use Rattle.ask_answers.proofs.WordBounds.{bounded_sum, bounded_word}
-
-letters_enough : (k : Kind) (r : ℕ) → coordinates_of k r ≤ letter_count_of k r
-letters_enough A r = omega arith
-letters_enough B r = omega arith
-letters_enough C r = omega arith
-letters_enough D r = omega arith
-
-steps_are_digits : (t : CartanType) (ds : List ℕ) → AreSteps (coordinates t) ds → AreDigits (map (base_size t) (replicate (length ds) Vector)) ds
-unfolding base_size
-steps_are_digits t [] steps = tt
-steps_are_digits t (d ∷ ds) steps = (omega (arith, steps.0, letters_enough t.kind t.rank), steps_are_digits t ds steps.2)
-
--- the top word of a shape is a word of its space
-top_is_word : (s : ShapeType) → IsShape s → IsWord (shape_space s) (top_word s)
-unfolding top_word
-top_is_word s h =
-    let digits = steps_are_digits s.cartan (map (λ (b : Box). b.row) (boxes s.rows)) (top_steps s.rows (coordinates s.cartan) (width s.rows) h.low) in
-    rw (length-top s h) at digits
 
 -- the weight of a shape has whole pairings
 pub shape_pairings : (s : ShapeType) → IsShape s → (i : ℕ) → HasIndex s.cartan i → (p : ℤ) × IsPairing s.cartan (shape_weight s) i p

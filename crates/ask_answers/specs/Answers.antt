@@ -21,16 +21,16 @@ pub record IsImages (f : FinishedType) (i : ℕ) (images : List ℕ) : Type 0 wh
   pub each : (rank : ℕ) → rank < length f.codes → reflection_rank f i rank ≡ Some (slice_index images rank)
 
 -- the text answers the ask about the graph, whose job has its first start at the code b
-abbrev pub IsAnswer : FinishedType → ℕ → Ask → List ℕ → Type 0
-IsAnswer f b (Demazure indices) text = (ranks : List ℕ) × IsSubset f b indices ranks × (text ≡ demazure_text f indices ranks)
-IsAnswer f b (Tops shape) text = text ≡ tops_text f shape (tops_beside f (shape_weight shape))
-IsAnswer f b (Reflect i) text = (images : List ℕ) × IsImages f i images × (text ≡ reflection_text i images)
+abbrev pub IsAskAnswer : FinishedType → ℕ → Ask → List ℕ → Type 0
+IsAskAnswer f b (Demazure indices) text = (ranks : List ℕ) × IsSubset f b indices ranks × (text ≡ demazure_text f indices ranks)
+IsAskAnswer f b (Tops shape) text = text ≡ tops_text f shape (tops_beside f (shape_weight shape))
+IsAskAnswer f b (Reflect i) text = (images : List ℕ) × IsImages f i images × (text ≡ reflection_text i images)
 
 -- the text answers the asks one after another, in their order
 abbrev pub AreAnswers : FinishedType → ℕ → List Ask → List ℕ → Type 0
 AreAnswers f b [] text = text ≡ []
 AreAnswers f b (ask ∷ asks) text =
-    (first : List ℕ) × (rest : List ℕ) × IsAnswer f b ask first × AreAnswers f b asks rest × (text ≡ first ++ rest)
+    (first : List ℕ) × (rest : List ℕ) × IsAskAnswer f b ask first × AreAnswers f b asks rest × (text ≡ first ++ rest)
 
 -- laws
 

@@ -1,7 +1,7 @@
 //! Answers to the asks of a job.
 ghost use Rattle.std.specs.Prelude.{◌≡◌, ℕ, ◌++◌, List, All, Contains, OnOk};
 ghost use Rattle.job_text.specs.Jobs.{IsAsk};
-ghost use Rattle.ask_answers.specs.Answers.{IsAnswer, AreAnswers};
+ghost use Rattle.ask_answers.specs.Answers.{IsAskAnswer, AreAnswers};
 
 use crate::reflections::push_reflect_ask;
 use crate::subsets::push_demazure_ask;
@@ -40,7 +40,7 @@ fn push_ask(
 ) -> Result<(), NoMemory>
     requires ask { IsAsk finished.now.space ask.now }
     requires start { Contains finished.now.codes start }
-    ensures { OnOk result ((text : List ℕ) × IsAnswer finished.now start ask.now text
+    ensures { OnOk result ((text : List ℕ) × IsAskAnswer finished.now start ask.now text
         × (out.new.items ≡ out.old.items ++ text)) }
 {
     match ask {

@@ -38,7 +38,12 @@ fn answers(alloc: Global, text: &[u8]) -> Option<Vec<u8>> {
 }
 
 /// Jobs, and the answers to their asks.
-const ANSWERS: [(&str, &str); 5] = [
+const ANSWERS: [(&str, &str); 6] = [
+    // Pieri's rule in Kashiwara's order: the top word of the shape stands first.
+    (
+        "type A 2\norder kashiwara\nshape 2 1\ntops 1\n",
+        "tops 1 | 3\n1 1 1 2 | 3 1 0\n1 2 1 2 | 2 2 0\n1 2 1 3 | 2 1 1\n",
+    ),
     (
         "type A 2\nshape 1\ndemazure 2 1\ndemazure 1 2\nreflect 1\n",
         "demazure 2 1 | 3\n0 | 1\n1 | 2\n2 | 3\ndemazure 1 2 | 2\n0 | 1\n1 | 2\nreflect 1 | 3\n0 | 1\n1 | 0\n2 | 2\n",
@@ -64,7 +69,7 @@ const ANSWERS: [(&str, &str); 5] = [
 fn whole_texts(rt: HostRuntime) -> Result<(), Fail> {
     answers_are_one();
     for (job, text) in ANSWERS {
-        let job = format!(in rt.alloc(); "crystal-job 1\n{job}")?;
+        let job = format!(in rt.alloc(); "crystal-job 2\n{job}")?;
         let told = answers(rt.alloc(), job.as_bytes()).ok_or("a job that is taken")?;
         assert_eq!(rt; told.as_slice(), text.as_bytes());
     }

@@ -11,8 +11,8 @@ use crystal_subsets::product_tops;
 use std::alloc::Global;
 use tableau_reading::Shape;
 
-/// Appends the vertices that are tops beside the weight of a shape, each followed by the top word of the shape: the
-/// highest weight elements of the product with the crystal of the shape.
+/// Appends the vertices that are tops beside the weight of a shape, each followed by the top word of the shape, in
+/// Kashiwara's tensor order behind it: the highest weight elements of the product with the crystal of the shape.
 pub(crate) fn push_tops_ask(
     alloc: Global,
     out: &mut Vec<u8>,

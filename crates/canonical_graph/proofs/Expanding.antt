@@ -1,14 +1,15 @@
 -- What following the operators adds to those found.
-use Rattle.std.proofs.Common.{◌≡◌, ◌∙◌, refl, sym, ap, subst, ℕ, ◌+◌, ◌<◌, ◌⊎◌, inl, inr, Bool, true, false, List, [], ◌++◌, length, get_or, Option, None, Some, Contains, append_assoc, arith}
+use Rattle.std.proofs.Common.{◌≡◌, ◌∙◌, refl, sym, ap, subst, ℕ, ◌+◌, ◌<◌, ◌≤◌, ◌⊎◌, inl, inr, Bool, true, false, if◌then◌else◌, List, [], ◌++◌, length, get_or, Option, None, Some, Contains, append_assoc, arith}
 use Rattle.std.proofs.lemmas.Bool.{cases_lt}
-use Rattle.std.proofs.lemmas.List.{append-nil}
+use Rattle.std.proofs.lemmas.List.{append-nil, get_or_append_left, length-append}
 use Rattle.std.proofs.lemmas.List.Elements.{Contains-append_left, Contains-append_cases, Contains-get_or}
 use Rattle.crystal_cartan.specs.Types.{HasIndex}
 use Rattle.crystal_cartan.specs.declared.types.Arrow.{Arrow}
-use Rattle.tensor_words.specs.Spaces.{SpaceType, size}
+use Rattle.tensor_words.specs.Spaces.{SpaceType, IsSpace, size}
 use Rattle.std.specs.Option.{option_map}
 use Rattle.tensor_words.specs.Codes.{code_of, word_of}
 use Rattle.tensor_words.specs.Operators.{acted, op}
+use Rattle.tensor_words.proofs.Keeps.{op_below}
 use Rattle.canonical_graph.specs.Tables.{arrow_to}
 use Rattle.canonical_graph.specs.Growth.{AddsCode, Follows, IsFollowed, IsNeighbour, Expands, HasRoots}
 use Rattle.canonical_graph.proofs.Adding.{none_in}
@@ -19,26 +20,49 @@ still_in old more new c is there = subst (λ xs. Contains xs c) (sym is) (Contai
 pub old_or_more : (old more new : List ℕ) (c : ℕ) → new ≡ old ++ more → Contains new c → Contains old c ⊎ Contains more c
 old_or_more old more new c is there = Contains-append_cases old more c (subst (λ xs. Contains xs c) is there)
 
+pub longer : (old mid new a b : List ℕ) → mid ≡ old ++ a → new ≡ mid ++ b → length old ≤ length new
+longer old mid new a b first second =
+    let one : length mid ≡ length old + length a = ap (λ (xs : List ℕ). length xs) first ∙ length-append old a in
+    let two : length new ≡ length mid + length b = ap (λ (xs : List ℕ). length xs) second ∙ length-append mid b in
+    omega arith
+
+-- the code at a place is still there where more are found
+pub at_place : (old mid new a b : List ℕ) (k code : ℕ) → mid ≡ old ++ a → new ≡ mid ++ b → k < length old → code ≡ get_or old k 0 → code ≡ get_or new k 0
+at_place old mid new a b k code first second lt is =
+    let within : k < length mid = omega (arith, lt, ap (λ (xs : List ℕ). length xs) first, length-append old a) in
+    is ∙ sym (ap (λ (xs : List ℕ). get_or xs k 0) first ∙ get_or_append_left old a 0 k lt) ∙ sym (ap (λ (xs : List ℕ). get_or xs k 0) second ∙ get_or_append_left mid b 0 k within)
+
 -- an operator on a code, by its word
 pub op_at : (s : SpaceType) (a : Arrow) (code : ℕ) (w : List ℕ) → w ≡ word_of s code → option_map (code_of s) (acted s a w) ≡ op s a code
 unfolding op
 op_at s a code w is = rw is refl
 
-pub follows_zero : (s : SpaceType) (next : Option ℕ) (old : List ℕ) → next ≡ None → Follows s next old old
-follows_zero s next old zero_is = record {
+pub follows_zero : (next : Option ℕ) (old : List ℕ) → next ≡ None → Follows next old old
+follows_zero next old zero_is = record {
   more = [];
   is = sym (append-nil old);
   there = λ c is. cc;
   only = λ c h. none_in c h;
 }
 
-pub follows_some : (s : SpaceType) (next : Option ℕ) (code : ℕ) (old new : List ℕ) → next ≡ Some code → code < size s → AddsCode old code new → Follows s next old new
-follows_some s next code old new leads below added = record {
+pub follows_some : (next : Option ℕ) (code : ℕ) (old new : List ℕ) → next ≡ Some code → AddsCode old code new → Follows next old new
+follows_some next code old new leads added = record {
   more = added.more;
   is = added.is;
   there = λ c is. let same : code ≡ c = cc in subst (λ x. Contains new x) same added.there;
-  only = λ c h. let same : c ≡ code = added.only c h in (rw same leads, rw same below);
+  only = λ c h. let same : c ≡ code = added.only c h in rw same leads;
 }
+
+-- what is known to be found need not be followed
+pub follows_unless : (known : Bool) (next : Option ℕ) (old new : List ℕ) → (known ≡ true → (c : ℕ) → next ≡ Some c → Contains old c)
+    → Follows (if known then None else next) old new → Follows next old new
+follows_unless true next old new there f = record {
+  more = f.more;
+  is = f.is;
+  there = λ c is. still_in old f.more new c f.is (there refl c is);
+  only = λ c h. let none : None ≡ Some c = f.only c h in cc;
+}
+follows_unless false next old new there f = f
 
 pub expands_none : (s : SpaceType) (code : ℕ) (old : List ℕ) → Expands s 0 code old old
 expands_none s code old = record {
@@ -51,9 +75,9 @@ expands_none s code old = record {
 regroup : (a b c d : List ℕ) → ((a ++ b) ++ c) ++ d ≡ a ++ ((b ++ c) ++ d)
 regroup a b c d = simp append_assoc
 
-pub expands_more : (s : SpaceType) (n i code : ℕ) (old mid half new : List ℕ) → n + 1 ≡ i → HasIndex s.cartan i → Expands s n code old mid
-    → Follows s (op s (arrow_to true i) code) mid half → Follows s (op s (arrow_to false i) code) half new → Expands s (n + 1) code old new
-expands_more s n i code old mid half new next index e low high = record {
+pub expands_more : (s : SpaceType) (n i code : ℕ) (old mid half new : List ℕ) → IsSpace s → code < size s → n + 1 ≡ i → HasIndex s.cartan i → Expands s n code old mid
+    → Follows (op s (arrow_to true i) code) mid half → Follows (op s (arrow_to false i) code) half new → Expands s (n + 1) code old new
+expands_more s n i code old mid half new space lt next index e low high = record {
   more = (e.more ++ low.more) ++ high.more;
   is = whole;
   followed = followed;
@@ -74,8 +98,13 @@ expands_more s n i code old mid half new next index e low high = record {
       | inr under ↦ still_in half high.more new c high.is (still_in mid low.more half c low.is (e.followed a c fits under leads))
     ]
 
-    by_arrow : (down : Bool) (c : ℕ) → (op s (arrow_to down i) code ≡ Some c) × (c < size s) → IsNeighbour s code c
-    by_arrow down c (leads, below) = record { arrow = arrow_to down i; fits = record { index = index }; leads = leads; below = below }
+    by_arrow : (down : Bool) (c : ℕ) → op s (arrow_to down i) code ≡ Some c → IsNeighbour s code c
+    by_arrow down c leads = record {
+      arrow = arrow_to down i;
+      fits = record { index = index };
+      leads = leads;
+      below = op_below s (arrow_to down i) code c space (record { index = index }) lt leads;
+    }
 
     only : (c : ℕ) → Contains ((e.more ++ low.more) ++ high.more) c → IsNeighbour s code c
     only c h = elim (Contains-append_cases (e.more ++ low.more) high.more c h) [

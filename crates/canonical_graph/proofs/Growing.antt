@@ -1,11 +1,10 @@
 -- A growth from the roots to its end.
 use Rattle.std.proofs.Common.{◌≡◌, ◌∙◌, refl, sym, ap, subst, ℕ, ◌+◌, ◌<◌, ◌≤◌, inl, inr, nat_eq, eqb-true, List, [], ◌∷◌, ◌++◌, length, take, get_or, None, Some, true, false, All, Contains, length-append, arith}
 use Rattle.std.specs.List.{IsDistinct}
-use Rattle.std.specs.List.Sorted.{IsPermutation, IsSorted}
+use Rattle.std.specs.List.Sorted.{IsPermutation, IsNonDecreasing}
 use Rattle.std.specs.Option.{option_and_then}
-use Rattle.std.specs.Ordering.{nat_cmp}
 use Rattle.std.proofs.lemmas.Bool.Decides.{nat_tests}
-use Rattle.std.proofs.lemmas.List.Sorted.{Contains-permutation, IsPermutation-sym, IsNonDecreasingBy-from_sort, length_permutation}
+use Rattle.std.proofs.lemmas.List.Sorted.{Contains-permutation, IsPermutation-sym, length_permutation}
 use Rattle.std.proofs.lemmas.Map.Keys.{IsStrictlyIncreasing-from_distinct, IsDistinct-IsPermutation}
 use Rattle.std.specs.Set.{is_member}
 use Rattle.std.proofs.lemmas.Bool.{cases_lt}
@@ -20,8 +19,8 @@ use Rattle.tensor_words.specs.Spaces.{SpaceType, size}
 use Rattle.tensor_words.specs.Operators.{IsArrow, op}
 use Rattle.tensor_words.specs.Worlds.{WorldType, IsWorld}
 use Rattle.tensor_words.specs.Reach.{IsPath, walk, IsReached, Outnumber}
-use Rattle.canonical_graph.specs.Graphs.{IsClosedList}
-use Rattle.canonical_graph.specs.Growth.{IsFollowed, IsNeighbour, Expands, HasRoots, IsFrontier, HasNexts, IsWhole, IsSortedFrom, IsGrown}
+use Rattle.canonical_graph.specs.Graphs.{IsClosedList, IsFinished, finished_graph}
+use Rattle.canonical_graph.specs.Growth.{IsFollowed, IsNeighbour, Expands, HasRoots, IsFrontier, HasNexts, IsWhole, IsEnded, IsSortedFrom, IsGrown}
 use Rattle.canonical_graph.proofs.Expanding.{still_in, old_or_more}
 
 -- an element by its place
@@ -156,10 +155,10 @@ all_reached w n c found fr all r =
     walk_closed w.space found (closed_found w n found fr all) r.path r.root c r.arrows (fr.rooted r.root r.rooted) r.leads
 
 -- the codes that were found, sorted
-pub sorted_from : (found xs ys : List ℕ) → xs ≡ found → IsDistinct nat_eq xs → IsPermutation xs ys → IsSorted nat_cmp ys → IsSortedFrom found ys
+pub sorted_from : (found xs ys : List ℕ) → xs ≡ found → IsDistinct nat_eq xs → IsPermutation xs ys → IsNonDecreasing ys → IsSortedFrom found ys
 sorted_from found xs ys copied distinct moved sorted = record {
   ascending =
-      IsStrictlyIncreasing-from_distinct ys (IsNonDecreasingBy-from_sort (λ x. x) ys sorted)
+      IsStrictlyIncreasing-from_distinct ys sorted
       (IsDistinct-IsPermutation nat_eq flips xs ys moved distinct);
   few = omega (arith, length_permutation xs ys moved, ap (λ (zs : List ℕ). length zs) copied);
   from = λ c h. subst (λ zs. Contains zs c) copied (Contains-permutation ys xs c (IsPermutation-sym xs ys moved) h);
@@ -199,16 +198,35 @@ grown w n found codes world fr all distinct sorted = record {
         counted : (o : Outnumber w) → length o.codes ≤ length found
         counted o = length-le_from_is_member nat_eq_equiv o.codes found o.distinct (member o)
 
-pub whole : (w : WorldType) (n : ℕ) (found low high : List ℕ) → IsFrontier w n found → length found ≤ n → IsDistinct nat_eq found
-    → HasNexts w.space true found n low → HasNexts w.space false found n high → IsWhole w found low high
-whole w n found low high fr all distinct lowered raised =
+pub whole : (w : WorldType) (n : ℕ) (found notes : List ℕ) → IsFrontier w n found → length found ≤ n → IsDistinct nat_eq found
+    → HasNexts w.space found n notes → IsWhole w found notes
+whole w n found notes fr all distinct lowered =
     let same : n ≡ length found = omega (arith, fr.within) in
     record {
       frontier = rw same at fr;
       distinct = distinct;
       lowered = rw same at lowered;
-      raised = rw same at raised;
     }
 
-pub grown_whole : (w : WorldType) (found codes low high : List ℕ) → IsWorld w → IsWhole w found low high → IsSortedFrom found codes → IsGrown w codes
-grown_whole w found codes low high world whole sorted = grown w (length found) found codes world whole.frontier (omega arith) whole.distinct sorted
+pub grown_whole : (w : WorldType) (found codes notes : List ℕ) → IsWorld w → IsWhole w found notes → IsSortedFrom found codes → IsGrown w codes
+grown_whole w found codes notes world whole sorted = grown w (length found) found codes world whole.frontier (omega arith) whole.distinct sorted
+
+pub ended_whole : (w : WorldType) (found notes : List ℕ) → IsWorld w → IsWhole w found notes → IsEnded w.space found notes
+ended_whole w found notes world whole = record {
+  space = world.space;
+  below = whole.frontier.below;
+  few = omega (arith, whole.frontier.few, world.few);
+  closed = closed_found w (length found) found whole.frontier (omega arith);
+  distinct = whole.distinct;
+  lowered = whole.lowered;
+}
+
+-- the graph of a growth that has ended
+pub finished_ended : (s : SpaceType) (found codes notes : List ℕ) → IsEnded s found notes → IsSortedFrom found codes → IsFinished (finished_graph s codes)
+finished_ended s found codes notes ended sorted = record {
+  space = ended.space;
+  ascending = sorted.ascending;
+  below = λ k d lt. ended.below (get_or codes k d) (sorted.from (get_or codes k d) (Contains-get_or codes k d lt));
+  few = omega (arith, sorted.few, ended.few);
+  closed = λ a c d there fits leads. sorted.all d (ended.closed a c d (sorted.from c there) fits leads);
+}

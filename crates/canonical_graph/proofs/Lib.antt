@@ -5,3 +5,7 @@ pub mod Expanding
 pub mod Growing
 pub mod Spacing
 pub mod Noting
+pub mod Scattering
+pub mod Turned
+pub mod Raising
+pub mod Marking

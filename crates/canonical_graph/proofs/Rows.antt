@@ -9,8 +9,8 @@ use Rattle.crystal_cartan.specs.Types.{HasIndex}
 use Rattle.crystal_cartan.specs.declared.types.Arrow.{Arrow}
 use Rattle.std.specs.Option.{option_and_then}
 use Rattle.tensor_words.specs.Operators.{IsArrow, op}
-use Rattle.canonical_graph.specs.Graphs.{FinishedType, IsFinished, code_at, rank_in, target_rank, lowering, arrows_from, arrow_count}
-use Rattle.canonical_graph.specs.Tables.{entry, entry_at, arrow_to, row, HasRows, IsTable, IsKept}
+use Rattle.canonical_graph.specs.Graphs.{FinishedType, IsFinished, code_at, rank_in, target_rank, lowering, arrows_from}
+use Rattle.canonical_graph.specs.Tables.{entry, entry_at, arrow_to, row, HasRows, AreLowered, IsKept}
 use Rattle.canonical_graph.proofs.Ranks.{target_below}
 
 pub in_row : (rank n r j : ℕ) → rank < n → j < r → rank * r + j < n * r
@@ -68,11 +68,18 @@ more_counted p n j index = sum_more (λ i. if p i then 1 else 0) 1 n j index
 pub more_arrows : (f : FinishedType) (n : ℕ) → sum_by (arrows_from f) (range_with_len 0 (n + 1)) ≡ sum_by (arrows_from f) (range_with_len 0 n) + arrows_from f n
 more_arrows f n = sum_more (arrows_from f) 0 n n (omega arith)
 
-pub all_kept : (f : FinishedType) (n arrows : ℕ) (low high : List ℕ) → IsFinished f → n ≡ length f.codes → IsTable f true n low → IsTable f false n high
-    → arrows ≡ sum_by (arrows_from f) (range_with_len 0 n) → IsKept f low high arrows
-unfolding arrow_count
-all_kept f n arrows low high finished all lowered raised counted =
-    record { finished = finished; lowered = rw all at lowered; raised = rw all at raised; counted = rw all at counted }
+pub none_lowered : (f : FinishedType) (xs : List ℕ) (arrows : ℕ) → xs ≡ [] → arrows ≡ 0 → AreLowered f 0 xs arrows
+none_lowered f xs arrows empty none = rw empty (record { table = no_rows 0 (λ rank i. entry_at f rank true i) f.space.cartan.rank; counted = none })
+
+pub more_lowered : (f : FinishedType) (n before arrows : ℕ) (xs new : List ℕ) → AreLowered f n xs before → new ≡ xs ++ row f n true f.space.cartan.rank
+    → arrows ≡ before + arrows_from f n → AreLowered f (n + 1) new arrows
+more_lowered f n before arrows xs new have is counted = record {
+  table = more_rows 0 (λ rank i. entry_at f rank true i) f.space.cartan.rank n xs new have.table is;
+  counted = omega (arith, counted, more_arrows f n, have.counted);
+}
+
+pub all_lowered : (f : FinishedType) (n count arrows : ℕ) (xs : List ℕ) → n ≡ count → AreLowered f n xs arrows → AreLowered f count xs arrows
+all_lowered f n count arrows xs all have = rw all at have
 
 -- what stands in the table of a direction
 pub entry_in : (f : FinishedType) (low high : List ℕ) (arrows rank : ℕ) (a : Arrow) → IsKept f low high arrows → rank < length f.codes → IsArrow f.space a

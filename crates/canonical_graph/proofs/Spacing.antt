@@ -78,11 +78,11 @@ print_ends f rank n old out new first all p is =
     by first (x ∷ xs) text none = ap (dash_onto out) none ∙ text
 
 -- the line of a vertex, piece by piece
-pub line_is : (f : FinishedType) (rank : ℕ) (s : SpaceType) (word : List ℕ) (weight : List ℤ) (old o1 o2 o3 o4 o5 o6 o7 : List ℕ)
-    → s ≡ f.space → word ≡ vertex_word f rank → weight ≡ word_weight s word → old ≡ []
+pub line_is : (f : FinishedType) (rank : ℕ) (s steps : SpaceType) (word : List ℕ) (weight : List ℤ) (old o1 o2 o3 o4 o5 o6 o7 : List ℕ)
+    → s ≡ f.space → steps ≡ f.space → word ≡ vertex_word f rank → weight ≡ word_weight steps word → old ≡ []
     → o1 ≡ old ++ decimal rank → o2 ≡ o1 ++ bar → o3 ≡ o2 ++ word_text s word → o4 ≡ o3 ++ bar → o5 ≡ o4 ++ weight_text weight → o6 ≡ o5 ++ bar
     → o7 ≡ o6 ++ arrows_text f rank → o7 ≡ vertex_text f rank
 unfolding vertex_text
-line_is f rank s word weight old o1 o2 o3 o4 o5 o6 o7 space is_word is_weight empty e1 e2 e3 e4 e5 e6 e7 =
+line_is f rank s steps word weight old o1 o2 o3 o4 o5 o6 o7 space own is_word is_weight empty e1 e2 e3 e4 e5 e6 e7 =
     let first : o1 ≡ decimal rank = e1 ∙ ap (λ o. o ++ decimal rank) empty in
-    rw (e7, e6, e5, e4, e3, e2, first, is_weight, is_word, space) refl
+    rw (e7, e6, e5, e4, e3, e2, first, is_weight, is_word, space, own) refl

@@ -1,13 +1,14 @@
 -- What a plain growth keeps.
-use Rattle.std.specs.Prelude.{ℕ, ◌<◌, ◌≤◌, ◌≡◌, ◌==◌, if◌then◌else◌, nat_eq, Bool, true, false, List, ◌++◌, map, length, slice_index, Option, Some, None, All, Contains, ◌⊎◌}
+use Rattle.std.specs.Prelude.{ℕ, ◌^◌, ◌<◌, ◌≤◌, ◌≡◌, ◌==◌, if◌then◌else◌, nat_eq, true, List, ◌++◌, map, length, slice_index, Option, Some, None, All, Contains, ◌⊎◌}
 use Rattle.std.specs.List.{IsDistinct, range_with_len}
 use Rattle.std.specs.List.Sorted.{IsStrictlyIncreasing}
 use Rattle.crystal_cartan.specs.declared.types.Arrow.{Arrow}
-use Rattle.tensor_words.specs.Spaces.{SpaceType, size}
+use Rattle.tensor_words.specs.Spaces.{SpaceType, IsSpace, size}
 use Rattle.tensor_words.specs.Operators.{IsArrow, op}
 use Rattle.tensor_words.specs.Worlds.{WorldType}
 use Rattle.tensor_words.specs.Reach.{IsReached, IsComponentList, Outnumber}
-use Rattle.canonical_graph.specs.Graphs.{IsFinished, finished_graph, rank_in}
+use Rattle.canonical_graph.specs.declared.numbering.PlacedCode.{PlacedCode}
+use Rattle.canonical_graph.specs.Graphs.{IsFinished, IsClosedList, finished_graph, rank_in}
 use Rattle.canonical_graph.specs.Tables.{arrow_to, HasRows}
 
 -- the new list begins with the old one, has the code, and has no other new code
@@ -18,11 +19,11 @@ pub record AddsCode (old : List ℕ) (code : ℕ) (new : List ℕ) : Type 0 wher
   pub only : (c : ℕ) → Contains more c → c ≡ code
 
 -- the same of what an operator gave, if it is not zero
-pub record Follows (s : SpaceType) (next : Option ℕ) (old new : List ℕ) : Type 0 where
+pub record Follows (next : Option ℕ) (old new : List ℕ) : Type 0 where
   pub more : List ℕ
   pub is : new ≡ old ++ more
   pub there : (c : ℕ) → next ≡ Some c → Contains new c
-  pub only : (c : ℕ) → Contains more c → (next ≡ Some c) × (c < size s)
+  pub only : (c : ℕ) → Contains more c → next ≡ Some c
 
 -- what the operators of the first n indices make of a code is in the list
 abbrev pub IsFollowed : SpaceType → ℕ → ℕ → List ℕ → Type 0
@@ -43,7 +44,7 @@ pub record Expands (s : SpaceType) (n code : ℕ) (old new : List ℕ) : Type 0 
   pub followed : IsFollowed s n code new
   pub only : (c : ℕ) → Contains more c → IsNeighbour s code c
 
--- a growth notes what an operator makes of a code by the place at which that stands among those found, from 0, or by
+-- a growth notes what a lowering operator makes of a code by the place at which that stands among those found, from 0, or by
 -- 2^32 - 1 for zero; in a list with an element for each code that was found, a note stands for its element
 abbrev pub noted_in : List ℕ → ℕ → Option ℕ
 noted_in xs note = if note == 4294967295 then None else Some (slice_index xs note)
@@ -56,20 +57,29 @@ IsNote count note = (note ≡ 4294967295) ⊎ (note < count)
 abbrev pub AreNotes : List ℕ → List ℕ → Type 0
 AreNotes found notes = All (IsNote (length found)) notes
 
--- what the operators of the first n indices make of a code, in one direction
-abbrev pub next_row : SpaceType → Bool → ℕ → ℕ → List (Option ℕ)
-next_row s down code n = map (λ i. op s (arrow_to down i) code) (range_with_len 1 n)
+-- what the lowering operators of the first n indices make of a code
+abbrev pub next_row : SpaceType → ℕ → ℕ → List (Option ℕ)
+next_row s code n = map (λ i. op s (arrow_to true i) code) (range_with_len 1 n)
 
 -- the new notes, by the new list of those found, begin with what the old ones stood for, and go on with what the
--- operators of the first n indices make of the code
-pub record AddsNotes (s : SpaceType) (down : Bool) (n code : ℕ) (old notes new later : List ℕ) : Type 0 where
+-- lowering operators of the first n indices make of the code
+pub record AddsNotes (s : SpaceType) (n code : ℕ) (old notes new later : List ℕ) : Type 0 where
   pub placed : AreNotes new later
-  pub is : map (noted_in new) later ≡ map (noted_in old) notes ++ next_row s down code n
+  pub is : map (noted_in new) later ≡ map (noted_in old) notes ++ next_row s code n
 
--- the notes of one direction have the rows of the first n codes that were found
-pub record HasNexts (s : SpaceType) (down : Bool) (found : List ℕ) (n : ℕ) (notes : List ℕ) : Type 0 where
+-- the notes have the rows of the first n codes that were found
+pub record HasNexts (s : SpaceType) (found : List ℕ) (n : ℕ) (notes : List ℕ) : Type 0 where
   pub placed : AreNotes found notes
-  pub rows : HasRows None (λ k i. op s (arrow_to down i) (slice_index found k)) s.cartan.rank n (map (noted_in found) notes)
+  pub rows : HasRows None (λ k i. op s (arrow_to true i) (slice_index found k)) s.cartan.rank n (map (noted_in found) notes)
+
+-- the codes of a list
+abbrev pub codes_in : List PlacedCode → List ℕ
+codes_in list = map (λ x. x.code) list
+
+-- the code stands at its place among those found
+pub record IsPlaced (found : List ℕ) (x : PlacedCode) : Type 0 where
+  pub within : x.place < length found
+  pub here : slice_index found x.place ≡ x.code
 
 -- the ranks of those found among the codes
 pub record AreRanks (codes found ranks : List ℕ) : Type 0 where
@@ -91,12 +101,20 @@ pub record IsFrontier (w : WorldType) (n : ℕ) (found : List ℕ) : Type 0 wher
   pub sound : (c : ℕ) → Contains found c → IsReached w c
   pub followed : (k : ℕ) → k < n → IsFollowed w.space w.space.cartan.rank (slice_index found k) found
 
--- a growth that has ended: all that are found are expanded, and the notes of both directions are whole
-pub record IsWhole (w : WorldType) (found low high : List ℕ) : Type 0 where
+-- a growth that has ended: all that are found are expanded, and the notes are whole
+pub record IsWhole (w : WorldType) (found notes : List ℕ) : Type 0 where
   pub frontier : IsFrontier w (length found) found
   pub distinct : IsDistinct nat_eq found
-  pub lowered : HasNexts w.space true found (length found) low
-  pub raised : HasNexts w.space false found (length found) high
+  pub lowered : HasNexts w.space found (length found) notes
+
+-- what its graph is made from
+pub record IsEnded (s : SpaceType) (found notes : List ℕ) : Type 0 where
+  pub space : IsSpace s
+  pub below : (c : ℕ) → Contains found c → c < size s
+  pub few : length found < 2 ^ 32
+  pub closed : IsClosedList s found
+  pub distinct : IsDistinct nat_eq found
+  pub lowered : HasNexts s found (length found) notes
 
 -- the codes are those found, ascending
 pub record IsSortedFrom (found codes : List ℕ) : Type 0 where

@@ -1,4 +1,6 @@
 pub mod Graphs
 pub mod Tables
+pub mod Turning
 pub mod Texts
 pub mod Growth
+pub mod Marks

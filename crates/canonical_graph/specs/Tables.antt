@@ -1,9 +1,9 @@
 -- How a finished graph keeps its arrows: one table for lowering and one for raising, with a row for each vertex in
 -- ascending rank, and in it an entry for each index.
-use Rattle.std.specs.Prelude.{ℕ, ◌+◌, ◌-◌, ◌*◌, ◌<◌, ◌≤◌, ◌≡◌, Bool, true, false, List, map, length, slice_index_or, Option, Some, None}
+use Rattle.std.specs.Prelude.{ℕ, ◌+◌, ◌-◌, ◌*◌, ◌<◌, ◌≤◌, ◌≡◌, Bool, true, false, List, map, length, slice_index_or, sum_by, Option, Some, None}
 use Rattle.std.specs.List.{range_with_len}
 use Rattle.crystal_cartan.specs.declared.types.Arrow.{Arrow}
-use Rattle.canonical_graph.specs.Graphs.{FinishedType, IsFinished, target_rank, arrow_count}
+use Rattle.canonical_graph.specs.Graphs.{FinishedType, IsFinished, target_rank, arrows_from, arrow_count}
 
 -- an entry is the rank to which the operator leads, or 2^32 - 1 where it gives zero
 abbrev pub entry : Option ℕ → ℕ
@@ -29,6 +29,11 @@ pub record HasRows {X : Type 0} (beyond : X) (at : ℕ → ℕ → X) (r n : ℕ
 -- the table of one direction has the rows of the first n vertices
 abbrev pub IsTable : FinishedType → Bool → ℕ → List ℕ → Type 0
 IsTable f down n entries = HasRows 0 (λ rank i. entry_at f rank down i) f.space.cartan.rank n entries
+
+-- the lowering half of the first n vertices: their rows, and the number of entries that lead somewhere
+pub record AreLowered (f : FinishedType) (n : ℕ) (entries : List ℕ) (arrows : ℕ) : Type 0 where
+  pub table : IsTable f true n entries
+  pub counted : arrows ≡ sum_by (λ rank. arrows_from f rank) (range_with_len 0 n)
 
 -- what is kept of a finished graph beside its space and its codes
 pub record IsKept (f : FinishedType) (low high : List ℕ) (arrows : ℕ) : Type 0 where

@@ -8,17 +8,19 @@ ghost use Rattle.canonical_graph.specs.Graphs.{IsFinished, IsClosedList, finishe
 ghost use Rattle.canonical_graph.specs.Tables.{IsKept};
 ghost use Rattle.canonical_graph.specs.Texts.{vertex_word};
 
-use crate::tables::{NO_TARGET, Targets, rank_among, targets_of, word_with};
+use crate::lowering::lowered_of;
+use crate::numbering::rank_among;
+use crate::tables::{NO_TARGET, Targets};
 use crystal_cartan::Arrow;
 use crystal_streams::NoMemory;
 use std::alloc::{AllocError, Global};
 use std::marker::Model;
-use tensor_words::{Codes, Space, Word};
+use tensor_words::{Codes, Space, Steps, Word};
 
 /// A finished graph: words of a space that are closed under all operators, in ascending order of their codes.
 #[derive(Debug, Drop)]
 pub struct Finished {
-    space: Space,
+    steps: Steps,
     codes: Vec<u64>,
     targets: Targets,
 }
@@ -29,9 +31,9 @@ impl Model for Finished {
 
     ghost Value = { FinishedType };
 
-    ghost view = { λ f. finished_graph f.space f.codes.items };
+    ghost view = { λ f. finished_graph f.steps f.codes.items };
 
-    ghost invariant = { λ f. IsKept (finished_graph f.space f.codes.items) f.targets.lowered.items f.targets.raised.items f.targets.arrows };
+    ghost invariant = { λ f. IsKept (finished_graph f.steps f.codes.items) f.targets.lowered.items f.targets.raised.items f.targets.arrows };
 }
 
 impl Finished {
@@ -74,7 +76,15 @@ impl Finished {
         ensures space { result.now ≡ self.now.space }
         ensures finished { IsFinished self.now }
     {
-        &self.space
+        self.steps.space()
+    }
+
+    /// The space of the words with its tables.
+    pub fn steps(&self) -> &Steps
+        ensures space { result.now ≡ self.now.space }
+        ensures finished { IsFinished self.now }
+    {
+        &self.steps
     }
 
     /// The code of a vertex.
@@ -104,7 +114,7 @@ impl Finished {
         ensures below { IfSome result (λ target. target < length self.now.codes) }
         ensures finished { IsFinished self.now }
     {
-        let indices = self.space.cartan().rank() as usize;
+        let indices = self.steps.cartan().rank() as usize;
         let place = rank as usize * indices + (arrow.index as usize - 1);
         let target = self.targets.entry(arrow.down, place);
         if target == NO_TARGET {
@@ -121,16 +131,16 @@ impl Finished {
         ensures is_word { IsWord self.now.space result }
         ensures finished { IsFinished self.now }
     {
-        word_with(&self.space, self.code_at(rank))
+        self.steps.word(self.code_at(rank))
     }
 
     /// The graph of these codes with its tables.
-    pub(crate) fn of_parts(space: Space, codes: Vec<u64>, targets: Targets) -> Finished
-        requires { IsKept (finished_graph space codes.items) targets.lowered.items targets.raised.items targets.arrows }
-        ensures { result ≡ finished_graph space codes.items }
+    pub(crate) fn of_parts(steps: Steps, codes: Vec<u64>, targets: Targets) -> Finished
+        requires { IsKept (finished_graph steps codes.items) targets.lowered.items targets.raised.items targets.arrows }
+        ensures { result ≡ finished_graph steps codes.items }
     {
         Finished {
-            space,
+            steps,
             codes,
             targets,
         }
@@ -142,6 +152,8 @@ fn finish(alloc: Global, space: Space, codes: Vec<u64>) -> Result<Finished, Allo
     requires { IsFinished (finished_graph space codes.items) }
     ensures { IfOk result (λ f. f ≡ finished_graph space codes.items) }
 {
-    let targets = targets_of(alloc, &space, codes.as_slice())?;
-    Ok(Finished::of_parts(space, codes, targets))
+    let steps = Steps::new(alloc, space)?;
+    let lowered = lowered_of(alloc, &steps, codes.as_slice())?;
+    let targets = Targets::of(alloc, &steps, codes.as_slice(), lowered)?;
+    Ok(Finished::of_parts(steps, codes, targets))
 }

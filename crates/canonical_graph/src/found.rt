@@ -1,5 +1,5 @@
 //! The codes found so far by a growth.
-ghost use Rattle.std.specs.Prelude.{◌≡◌, ◌+◌, ◌<◌, ◌≤◌, ℕ, [], length, slice_index, IfOk, OnOk, nat_eq, Contains};
+ghost use Rattle.std.specs.Prelude.{◌≡◌, ◌+◌, ◌<◌, ℕ, [], length, slice_index, IfOk, OnOk, nat_eq, if◌then◌else◌};
 ghost use Rattle.std.specs.List.{IsDistinct};
 ghost use Rattle.canonical_graph.specs.Growth.{AddsCode};
 
@@ -11,6 +11,13 @@ use std::marker::Model;
 #[derive(Drop)]
 pub(crate) struct Found {
     codes: IndexSet<u64>,
+}
+
+/// A code among those found: its place, counted from 0, and whether it was not there before.
+#[derive(Clone, Copy)]
+pub(crate) struct Entry {
+    pub(crate) place: usize,
+    pub(crate) is_new: bool,
 }
 
 impl Model for Found {
@@ -50,26 +57,14 @@ impl Found {
         }
     }
 
-    /// Adds the code where it is not there yet, and gives its place.
-    pub(crate) fn add(&mut self, code: u64) -> Result<usize, AllocError>
+    /// Adds the code where it is not there yet.
+    pub(crate) fn add(&mut self, code: u64) -> Result<Entry, AllocError>
         ensures added { OnOk result (AddsCode self.old code self.new) }
-        ensures place { IfOk result (λ place. slice_index self.new place ≡ code) }
-        ensures within { IfOk result (λ place. place < length self.new) }
-        ensures few { OnOk result (length self.new ≤ length self.old + 1) }
+        ensures place { IfOk result (λ entry. slice_index self.new entry.place ≡ code) }
+        ensures within { IfOk result (λ entry. entry.place < length self.new) }
+        ensures len { IfOk result (λ entry. length self.new ≡ length self.old + (if entry.is_new then 1 else 0)) }
     {
-        let (place, _) = self.codes.insert_full(code)?;
-        Ok(place)
-    }
-
-    /// The place of a code that was found, counted from 0.
-    pub(crate) fn place_of(&self, code: u64) -> usize
-        requires { Contains self.now code }
-        ensures place { slice_index self.now result ≡ code }
-        ensures within { result < length self.now }
-    {
-        match self.codes.get_index_of(&code) {
-            Some(place) => place,
-            None => unreachable!(),
-        }
+        let (place, is_new) = self.codes.insert_full(code)?;
+        Ok(Entry { place, is_new })
     }
 }

@@ -1,22 +1,24 @@
 //! Growth on one thread.
-ghost use Rattle.std.specs.Prelude.{◌≡◌, ℕ, ◌+◌, ◌^◌, ◌<◌, ◌≤◌, [], true, false, length, IfOk, IfSome, OnOk, IsErrOf, MatchOption, nat_eq};
-ghost use Rattle.std.specs.List.{IsDistinct};
+ghost use Rattle.std.specs.Prelude.{◌≡◌, ◌+◌, ◌^◌, ◌<◌, ◌≤◌, [], length, slice_index, IfOk, OnOk, IsErrOf, MatchOption, None, if◌then◌else◌};
 ghost use Rattle.std.specs.Option.{option_map};
 ghost use Rattle.crystal_cartan.specs.Types.{HasIndex};
-ghost use Rattle.tensor_words.specs.Spaces.{IsSpace, size};
-ghost use Rattle.tensor_words.specs.Codes.{IsWord, code_of, word_of};
-ghost use Rattle.tensor_words.specs.Operators.{op};
-ghost use Rattle.tensor_words.specs.Worlds.{IsWorld};
+ghost use Rattle.tensor_words.specs.Spaces.{size};
+ghost use Rattle.tensor_words.specs.Codes.{IsWord, code_of};
+ghost use Rattle.tensor_words.specs.TensorRule.{action};
 ghost use Rattle.tensor_words.specs.Reach.{IsComponentList, Outnumber};
-ghost use Rattle.canonical_graph.specs.Growth.{Follows, Expands, HasRoots, IsFrontier, IsWhole, IsSortedFrom, IsGrown, AreNotes, AddsNotes, IsNote, noted_in};
+ghost use Rattle.signature_rule.specs.Places.{ArePlaces};
+ghost use Rattle.canonical_graph.specs.Growth.{Expands, HasRoots, IsWhole, IsEnded, IsGrown, IsSortedFrom, AreNotes, AddsNotes};
+ghost use Rattle.canonical_graph.specs.Marks.{AreMarks};
 
 use crate::finished::Finished;
 use crate::found::Found;
-use crate::nexts::{Growth, NO_PLACE, Nexts};
-use crate::tables::{targets_of_growth, word_with};
-use signature_rule::act_both;
+use crate::frontier::Growth;
+use crate::lowering::lowered_of_growth;
+use crate::numbering::{codes_of, ranks_of, sorted};
+use crate::tables::Targets;
+use signature_rule::{ActingPlaces, lowered_code, places_of, raised_code};
 use std::alloc::{AllocError, Global};
-use tensor_words::{Space, Word, World};
+use tensor_words::{Steps, Word, World};
 
 /// Why a world did not grow.
 #[derive(Clone, Copy, Debug, Drop, PartialEq, Eq)]
@@ -34,46 +36,70 @@ pub fn grow_plain(alloc: Global, world: &World) -> Result<Finished, PlainFault>
     ensures fits { OnOk result (Outnumber world.now → ⊥) }
     ensures full { IsErrOf result PlainFault.Full → Outnumber world.now }
 {
-    match grown(alloc, world) {
-        Ok(Some(growth)) => match finished_growth(alloc, world, &growth) {
-            Ok(graph) => Ok(graph),
-            Err(_) => Err(PlainFault::NoMemory),
-        },
+    match grown_graph(alloc, world) {
+        Ok(Some(graph)) => Ok(graph),
         Ok(None) => Err(PlainFault::Full),
         Err(_) => Err(PlainFault::NoMemory),
     }
 }
 
-/// The growth from the roots, `None` where the reached words outnumber the cells.
-fn grown(alloc: Global, world: &World) -> Result<Option<Growth>, AllocError>
-    ensures { IfOk result (λ grown. MatchOption grown (Outnumber world.now) (λ g. IsWhole world.now g.found g.nexts.lowered.items g.nexts.raised.items)) }
+/// The graph that grows from the roots, `None` where the reached words outnumber the cells.
+fn grown_graph(alloc: Global, world: &World) -> Result<Option<Finished>, AllocError>
+    ensures { IfOk result (λ grown. MatchOption grown (Outnumber world.now) (λ f. IsGrown world.now f.codes × (f.space ≡ world.now.space))) }
 {
-    let cells = world.cells() as usize;
-    let mut found = Found::new(alloc);
-    let mut nexts = Nexts::new(alloc);
-    add_roots(world, &mut found)?;
-    let mut at = 0;
-    'expanded: while at < found.len() {
-        if found.len() > cells {
-            return Ok(None);
-        }
-        let code = found.at(at);
-        expand(world.space(), code, &mut found, &mut nexts)?;
-        at += 1;
+    let steps = Steps::new(alloc, *world.space())?;
+    match grown(alloc, world, &steps)? {
+        Some(growth) => Ok(Some(finished_growth(alloc, steps, &growth)?)),
+        None => Ok(None),
     }
-    Ok(Some(Growth { found, nexts }))
 }
 
-/// The graph of a growth.
-fn finished_growth(alloc: Global, world: &World, growth: &Growth) -> Result<Finished, AllocError>
-    requires { IsWhole world.now growth.now.found growth.now.nexts.lowered.items growth.now.nexts.raised.items }
-    ensures grown { IfOk result (λ f. IsGrown world.now f.codes) }
-    ensures space { IfOk result (λ f. f.space ≡ world.now.space) }
+/// The growth from the roots, `None` where the reached words outnumber the cells.
+fn grown(alloc: Global, world: &World, steps: &Steps) -> Result<Option<Growth>, AllocError>
+    requires { steps.now ≡ world.now.space }
+    ensures { IfOk result (λ grown. MatchOption grown (Outnumber world.now) (λ g. IsWhole world.now g.found g.lowered.items)) }
 {
-    let space = *world.space();
-    let codes = sorted(alloc, &growth.found)?;
-    let targets = targets_of_growth(alloc, &space, codes.as_slice(), growth)?;
-    Ok(Finished::of_parts(space, codes, targets))
+    let cells = world.cells() as usize;
+    let mut growth = rooted(alloc, world)?;
+    let mut at = 0;
+    'expanded: while at < growth.found.len() {
+        if growth.found.len() > cells {
+            return Ok(None);
+        }
+        expand(steps, at, &mut growth)?;
+        at += 1;
+    }
+    Ok(Some(growth))
+}
+
+/// The graph of a growth that has ended.
+fn finished_growth(alloc: Global, steps: Steps, growth: &Growth) -> Result<Finished, AllocError>
+    requires { IsEnded steps growth.now.found growth.now.lowered.items }
+    ensures codes { IfOk result (λ f. IsSortedFrom growth.now.found f.codes) }
+    ensures space { IfOk result (λ f. f.space ≡ steps) }
+{
+    let list = sorted(alloc, &growth.found)?;
+    let codes = codes_of(alloc, list.as_slice())?;
+    let ranks = ranks_of(alloc, &growth.found, list.as_slice())?;
+    let lowered = lowered_of_growth(alloc, &steps, list.as_slice(), growth, ranks.as_slice())?;
+    let targets = Targets::of(alloc, &steps, codes.as_slice(), lowered)?;
+    Ok(Finished::of_parts(steps, codes, targets))
+}
+
+/// A growth that has found the roots.
+fn rooted(alloc: Global, world: &World) -> Result<Growth, AllocError>
+    ensures roots { IfOk result (λ g. HasRoots world.now.roots (length world.now.roots) g.found) }
+    ensures lowered { IfOk result (λ g. g.lowered.items ≡ []) }
+    ensures known { IfOk result (λ g. AreMarks world.now.space g.found g.known.items) }
+{
+    let mut found = Found::new(alloc);
+    add_roots(world, &mut found)?;
+    let known = vec![in alloc; [false; 8]; found.len()]?;
+    Ok(Growth {
+        found,
+        lowered: Vec::new(alloc),
+        known,
+    })
 }
 
 fn add_roots(world: &World, found: &mut Found) -> Result<(), AllocError>
@@ -87,60 +113,49 @@ fn add_roots(world: &World, found: &mut Found) -> Result<(), AllocError>
     Ok(())
 }
 
-/// Adds what the operators make of the word with this code, and notes it.
-fn expand(space: &Space, code: u64, found: &mut Found, nexts: &mut Nexts) -> Result<(), AllocError>
-    requires code { code < size space.now }
-    requires few { length found.old ≤ 2 ^ 20 }
-    requires lowered { AreNotes found.old nexts.old.lowered.items }
-    requires raised { AreNotes found.old nexts.old.raised.items }
-    ensures expanded { OnOk result (Expands space.now space.now.cartan.rank code found.old found.new) }
-    ensures lowered { OnOk result (AddsNotes space.now true space.now.cartan.rank code found.old nexts.old.lowered.items found.new nexts.new.lowered.items) }
-    ensures raised { OnOk result (AddsNotes space.now false space.now.cartan.rank code found.old nexts.old.raised.items found.new nexts.new.raised.items) }
+/// Adds what the operators make of the code at this place, counted from 0, and notes it.
+fn expand(steps: &Steps, at: usize, growth: &mut Growth) -> Result<(), AllocError>
+    requires at { at < length growth.old.found }
+    requires code { slice_index growth.old.found at < size steps.now }
+    requires few { length growth.old.found ≤ 2 ^ 20 }
+    requires lowered { AreNotes growth.old.found growth.old.lowered.items }
+    requires known { AreMarks steps.now growth.old.found growth.old.known.items }
+    ensures expanded { OnOk result (Expands steps.now steps.now.cartan.rank (slice_index growth.old.found at) growth.old.found growth.new.found) }
+    ensures lowered { OnOk result (AddsNotes steps.now steps.now.cartan.rank (slice_index growth.old.found at) growth.old.found growth.old.lowered.items growth.new.found growth.new.lowered.items) }
+    ensures known { OnOk result (AreMarks steps.now growth.new.found growth.new.known.items) }
 {
-    let word = word_with(space, code);
-    'indices: for place in 0..space.cartan().rank() {
-        let both = act_both(space, &word, place + 1);
-        let lowered = follow(space, &both.lowered, found)?;
-        let raised = follow(space, &both.raised, found)?;
-        nexts.push(lowered, raised)?;
+    let code = growth.found.at(at);
+    let word = steps.word(code);
+    let places = places_of(steps, &word);
+    'indices: for place in 0..steps.cartan().rank() {
+        let lowered = lowered_code(steps, code, &word, &places, place + 1);
+        let note = growth.follow(lowered)?;
+        growth.note(note, place)?;
+        let known = growth.known[at][place as usize];
+        let raised = unknown_raise(steps, code, &word, &places, place + 1, known);
+        let _ = growth.follow(raised)?;
     }
     Ok(())
 }
 
-/// Adds the code of what an operator made of a word, and gives its note.
-fn follow(space: &Space, next: &Option<Word>, found: &mut Found) -> Result<u32, AllocError>
-    requires word { IfSome next.now (IsWord space.now) }
-    requires room { length found.old ≤ 2 ^ 21 }
-    ensures follows { OnOk result (Follows space.now (option_map (code_of space.now) next.now) found.old found.new) }
-    ensures note { IfOk result (λ note. noted_in found.new note ≡ option_map (code_of space.now) next.now) }
-    ensures placed { IfOk result (λ note. IsNote (length found.new) note) }
-    ensures few { OnOk result (length found.new ≤ length found.old + 1) }
+/// The code of what e_i makes of a word, `None` for zero and where it is known to be found.
+fn unknown_raise(
+    steps: &Steps,
+    code: u64,
+    word: &Word,
+    places: &ActingPlaces,
+    i: u8,
+    known: bool,
+) -> Option<u64>
+    requires word { IsWord steps.now word.now }
+    requires code { code ≡ code_of steps.now word.now }
+    requires places { ArePlaces steps.now word.now places.now }
+    requires index { HasIndex steps.now.cartan i }
+    ensures { result ≡ (if known then None else option_map (code_of steps.now) ((action steps.now i).raise word.now)) }
 {
-    match next {
-        Some(word) => {
-            let place = found.add(space.code_of(word))?;
-            Ok(place as u32)
-        }
-        None => Ok(NO_PLACE),
+    if known {
+        None
+    } else {
+        raised_code(steps, code, word, places, i)
     }
-}
-
-/// The codes that were found, ascending.
-fn sorted(alloc: Global, found: &Found) -> Result<Vec<u64>, AllocError>
-    ensures { IfOk result (λ codes. IsSortedFrom found.now codes.items) }
-{
-    let mut codes = copied(alloc, found)?;
-    codes.sort_unstable();
-    Ok(codes)
-}
-
-fn copied(alloc: Global, found: &Found) -> Result<Vec<u64>, AllocError>
-    ensures copied { IfOk result (λ codes. codes.items ≡ found.now) }
-    ensures distinct { IfOk result (λ codes. IsDistinct nat_eq codes.items) }
-{
-    let mut codes = Vec::with_capacity(alloc, found.len())?;
-    'found: for k in 0..found.len() {
-        codes.push(found.at(k))?;
-    }
-    Ok(codes)
 }

@@ -24,7 +24,7 @@ impl Finished {
         out.text(b" | ");
         print_word(space, &word, out);
         out.text(b" | ");
-        print_weight(&space.weight(&word), out);
+        print_weight(&self.steps().weight(&word), out);
         out.text(b" | ");
         self.print_arrows(rank, out);
     }

@@ -37,6 +37,13 @@ impl Places {
         self.chosen.is_empty()
     }
 
+    /// The places as a slice.
+    pub fn as_slice(&self) -> &[usize]
+        ensures { result.now ≡ self.now }
+    {
+        self.chosen.as_slice()
+    }
+
     /// The place of the chosen statistic number `k`, counted from 0.
     pub fn at(&self, k: usize) -> usize
         requires { k < length self.now }

@@ -1,50 +1,29 @@
 -- Bounds on the coordinates of weights.
-use Rattle.std.proofs.Common.{ℕ, Bool, true, false, ◌≡◌, ◌+◌, ◌-◌, ◌≤◌, ◌==◌, nat_lt, if◌then◌else◌, List, length, ℤ, pos, negsuc, neg_ℤ, ◌+ℤ◌, ◌≤ℤ◌, subst, sym, arith}
+use Rattle.std.proofs.Common.{ℕ, Bool, true, false, ◌≡◌, ◌+◌, ◌-◌, ◌≤◌, ◌<◌, ◌==◌, nat_lt, if◌then◌else◌, List, length, get_or, All, ℤ, pos, negsuc, ◌+ℤ◌, ◌≤ℤ◌, ap, ◌∙◌, arith}
+use Rattle.std.specs.List.{range_with_len}
 use Rattle.std.proofs.lemmas.Int.{ints}
-use Rattle.std.proofs.lemmas.List.Elements.{All-from_get_or}
+use Rattle.std.proofs.lemmas.List.{get_or-map, length-map}
+use Rattle.std.proofs.lemmas.List.FromFn.{get_or-range_with_len}
 use Rattle.crystal_cartan.specs.Types.{CartanType, coordinates}
-use Rattle.crystal_cartan.specs.Weights.{weight_from, coordinate, zero_weight, sum_of, unit_at, step_root_at, last_root_at, root_at, root, IsSmall, IsSmallCoordinate}
+use Rattle.crystal_cartan.specs.Weights.{weight_from, zero_weight, unit_at, step_root_at, last_root_at, root_at, root, IsSmall, IsWithin}
 use Rattle.crystal_cartan.specs.declared.types.Kind.{Kind}
 use Rattle.crystal_cartan.specs.declared.types.Kind.TheVariants.{A, B, C, D}
-use Rattle.crystal_cartan.proofs.Coordinates.{length-weight_from, coordinate-weight_from}
+use Rattle.crystal_cartan.proofs.Coordinates.{length-weight_from}
 
--- each doubled coordinate is between -n and n
-pub record IsWithin (n : ℕ) (w : List ℤ) : Type 0 where
-  pub at : (j : ℕ) → 1 ≤ j → j ≤ length w → (neg_ℤ (pos n) ≤ℤ coordinate w j) × (coordinate w j ≤ℤ pos n)
+pub All-weight_from : (P : ℤ → Type 0) (n : ℕ) (f : ℕ → ℤ) → ((j : ℕ) → 1 ≤ j → j ≤ n → P (f j)) → All P (weight_from n f)
+All-weight_from P n f each = λ k d lt.
+    let within : k < n = omega (arith, length-weight_from n f) in
+    let at : get_or (weight_from n f) k d ≡ f (1 + k) =
+    get_or-map f (range_with_len 1 n) k 0 d (omega (arith, length-map (range_with_len 1 n) f)) ∙ ap f (get_or-range_with_len 1 n k 0 within) in
+    rw at (each (1 + k) (omega arith) (omega arith))
 
-pub within_from :
-    (n m : ℕ) (f : ℕ → ℤ) → ((j : ℕ) → (neg_ℤ (pos n) ≤ℤ f j) × (f j ≤ℤ pos n)) → IsWithin n (weight_from m f)
-within_from n m f each = record {
-  at = λ j low high.
-      let inside : j ≤ m = omega (arith, length-weight_from m f) in
-      let same : coordinate (weight_from m f) j ≡ f j = coordinate-weight_from m f j low inside in
-      let P : ℤ → Type 0 = λ x. (neg_ℤ (pos n) ≤ℤ x) × (x ≤ℤ pos n) in
-      subst P (sym same) (each j);
-}
+pub zero_within : (t : CartanType) → All (IsWithin 0) (zero_weight t)
+zero_within t = All-weight_from (IsWithin 0) (coordinates t) (λ j. pos 0) (λ j low high. (omega (arith, ints), omega (arith, ints)))
 
-pub zero_within : (t : CartanType) → IsWithin 0 (zero_weight t)
-zero_within t = within_from 0 (coordinates t) (λ j. pos 0) (λ j. (omega (arith, ints), omega (arith, ints)))
-
--- the bounds of a sum add up
-pub sum_within :
-    (m n : ℕ) (v w : List ℤ) → length w ≡ length v → IsWithin m v → IsWithin n w → IsWithin (m + n) (sum_of v w)
-sum_within m n v w size p q = record {
-  at = λ j low high.
-      let inside : j ≤ length v = omega (arith, length-weight_from (length v) (λ k. coordinate v k +ℤ coordinate w k)) in
-      let left = p.at j low inside in
-      let right = q.at j low (omega arith) in
-      let same : coordinate (sum_of v w) j ≡ coordinate v j +ℤ coordinate w j =
-      coordinate-weight_from (length v) (λ k. coordinate v k +ℤ coordinate w k) j low inside in
-      let P : ℤ → Type 0 = λ x. (neg_ℤ (pos (m + n)) ≤ℤ x) × (x ≤ℤ pos (m + n)) in
-      subst P (sym same) (omega (arith, ints, left, right), omega (arith, ints, left, right));
-}
-
-pub small_from_within : (n : ℕ) (w : List ℤ) → n ≤ 1000 → IsWithin n w → IsSmall w
-small_from_within n w few p =
-    All-from_get_or IsSmallCoordinate w (pos 0) (λ i below.
-    let place : i + 1 - 1 ≡ i = omega arith in
-    let here = rw place at (p.at (i + 1) (omega arith) (omega arith)) in
-    (omega (arith, ints, here), omega (arith, ints, here)))
+pub small_from_within : (n : ℕ) (w : List ℤ) → n ≤ 1000 → All (IsWithin n) w → IsSmall w
+small_from_within n w few all = λ k d lt.
+    let x : IsWithin n (get_or w k d) = all k d lt in
+    (omega (arith, ints, x.0), omega (arith, ints, x.1))
 
 unit_bound : (i j : ℕ) → (pos 0 ≤ℤ unit_at i j) × (unit_at i j ≤ℤ pos 1)
 unit_bound i j = bound (i == j)
@@ -75,8 +54,8 @@ root_at_bound t i j = bound (nat_lt i t.rank)
     bound true = step_bound i j
     bound false = last_bound t.kind t.rank j
 
-pub root_within : (t : CartanType) (i : ℕ) → IsWithin 4 (root t i)
+pub root_within : (t : CartanType) (i : ℕ) → All (IsWithin 4) (root t i)
 unfolding root
-root_within t i = within_from 4 (coordinates t) (λ j. root_at t i j +ℤ root_at t i j) (λ j.
+root_within t i = All-weight_from (IsWithin 4) (coordinates t) (λ j. root_at t i j +ℤ root_at t i j) (λ j low high.
     let here = root_at_bound t i j in
     (omega (arith, ints, here), omega (arith, ints, here)))

@@ -1,13 +1,13 @@
 -- Weights read by their coordinates.
-use Rattle.std.proofs.Common.{ℕ, ◌≡◌, ◌+◌, ◌-◌, ◌≤◌, ◌<◌, List, length, take, slice_set, ℤ, pos, replicate, length-set, inl, inr, zero, suc, negsuc, ◌≤ℤ◌, ◌*ℤ◌, refl, sym, ap, ◌∙◌, arith}
-use Rattle.std.proofs.lemmas.List.{take-replicate, drop-replicate, length-replicate, get_or-replicate, get_or-set_other, ext_get_or}
+use Rattle.std.proofs.Common.{ℕ, ◌≡◌, ◌+◌, ◌-◌, ◌≤◌, ◌<◌, List, length, take, drop, slice_set, slice_index_or, ℤ, ◌+ℤ◌, pos, replicate, length-set, inl, inr, zero, suc, negsuc, ◌≤ℤ◌, ◌*ℤ◌, refl, sym, ap, subst, length-take, ◌∙◌, arith}
+use Rattle.std.proofs.lemmas.List.{take-replicate, drop-replicate, length-replicate, get_or-replicate, get_or-set_other, get_or-drop, get_or-take, length-drop, ext_get_or}
 use Rattle.std.proofs.lemmas.Grind.{get_or-set_at}
-use Rattle.std.proofs.lemmas.Bool.{cases_eq}
+use Rattle.std.proofs.lemmas.Bool.{cases_eq, cases_lt}
 use Rattle.std.proofs.lemmas.Int.{ints}
 use Rattle.std.proofs.lemmas.List.FromFn.{length-map-range_with_len, get_or-map-range_with_len}
-use Rattle.crystal_cartan.specs.Padded.{IsPadded}
+use Rattle.crystal_cartan.specs.Padded.{IsPadded, length-take_padded}
 use Rattle.crystal_cartan.specs.Types.{CartanType, IsCartan, coordinates, coordinates_of}
-use Rattle.crystal_cartan.specs.Weights.{weight_from, coordinate, IsSmall, IsSmallCoordinate}
+use Rattle.crystal_cartan.specs.Weights.{weight_from, coordinate, sum_of, IsSmall, IsSmallCoordinate}
 use Rattle.crystal_cartan.specs.declared.types.Kind.{Kind}
 use Rattle.crystal_cartan.specs.declared.types.Kind.TheVariants.{A, B, C, D}
 
@@ -104,3 +104,50 @@ product_small x (pos (suc (suc (suc n)))) b (c, d) = absurd (omega (arith, ints,
 product_small x (negsuc zero) (a, b) h = (omega (arith, ints, a, b), omega (arith, ints, a, b))
 product_small x (negsuc (suc zero)) (a, b) h = (omega (arith, ints, a, b), omega (arith, ints, a, b))
 product_small x (negsuc (suc (suc n))) b (c, d) = absurd (omega (arith, ints, c))
+
+-- the nine coordinates beyond those of a weight are 0
+zero_beyond : (n : ℕ) (xs : List ℤ) (k : ℕ) (d : ℤ) → IsPadded (pos 0) 9 n xs → n ≤ k → k < 9 → slice_index_or xs k d ≡ pos 0
+zero_beyond n xs k d p low high =
+    let place : n + (k - n) ≡ k = omega arith in
+    let there : slice_index_or (drop n xs) (k - n) d ≡ slice_index_or xs k d = get_or-drop n xs (k - n) d ∙ ap (λ i. slice_index_or xs i d) place in
+    sym there ∙ ap (λ ys. slice_index_or ys (k - n) d) p.rest ∙ get_or-replicate (9 - n) (k - n) (pos 0) d (omega arith)
+
+pub small_padded : (n : ℕ) (xs w : List ℤ) → IsPadded (pos 0) 9 n xs → take n xs ≡ w → IsSmall w → IsSmall xs
+small_padded n xs w p is small k d below =
+    elim (cases_lt k n) as (λ o. IsSmallCoordinate (slice_index_or xs k d)) [
+      | inl inside ↦
+          let there : slice_index_or w k d ≡ slice_index_or xs k d = ap (λ ys. slice_index_or ys k d) (sym is) ∙ get_or-take n xs k d inside in
+          subst IsSmallCoordinate there (small k d (omega (arith, ap length is, length-take_padded (pos 0) 9 n xs p)))
+      | inr outside ↦
+          let zero_there : slice_index_or xs k d ≡ pos 0 = zero_beyond n xs k d p outside (omega (arith, p.whole)) in
+          subst IsSmallCoordinate (sym zero_there) (omega (arith, ints), omega (arith, ints))
+    ]
+
+-- the nine coordinates of two weights, added place by place
+abbrev pub AreSums : List ℤ → List ℤ → List ℤ → Type 0
+AreSums xs ys zs = (k : ℕ) → k < 9 → slice_index_or zs k (pos 0) ≡ slice_index_or xs k (pos 0) +ℤ slice_index_or ys k (pos 0)
+
+pub sums_padded :
+    (n m : ℕ) (xs ys zs : List ℤ) → m ≡ n → length zs ≡ 9 → IsPadded (pos 0) 9 n xs → IsPadded (pos 0) 9 m ys → AreSums xs ys zs → IsPadded (pos 0) 9 n zs
+sums_padded n m xs ys zs same whole p q sums = record {
+  fits = p.fits;
+  whole = whole;
+  rest =
+      ext_get_or (pos 0) (drop n zs) (replicate (9 - n) (pos 0)) (omega (arith, length-drop n zs, length-replicate (9 - n) (pos 0), whole)) (λ i below.
+      let inside : n + i < 9 = omega (arith, length-drop n zs, whole) in
+      let left : slice_index_or xs (n + i) (pos 0) ≡ pos 0 = zero_beyond n xs (n + i) (pos 0) p (omega arith) inside in
+      let right : slice_index_or ys (n + i) (pos 0) ≡ pos 0 = zero_beyond m ys (n + i) (pos 0) q (omega arith) inside in
+      let sum : slice_index_or zs (n + i) (pos 0) ≡ pos 0 = rw (left, right) at (sums (n + i) inside) in
+      get_or-drop n zs i (pos 0) ∙ sum ∙ sym (get_or-replicate (9 - n) i (pos 0) (pos 0) (omega arith)));
+}
+
+pub sums_are :
+    (n m : ℕ) (xs ys zs v w : List ℤ) → m ≡ n → length zs ≡ 9 → IsPadded (pos 0) 9 n xs → take n xs ≡ v → take m ys ≡ w
+    → AreSums xs ys zs → take n zs ≡ sum_of v w
+sums_are n m xs ys zs v w same whole p left_is right_is sums =
+    let size : length v ≡ n = ap length (sym left_is) ∙ length-take_padded (pos 0) 9 n xs p in
+    rw size (weight_by_coordinates n (λ j. coordinate v j +ℤ coordinate w j) (take n zs) (omega (arith, length-take n zs, whole, p.fits)) (λ j low high.
+    let inside : j - 1 < n = omega arith in
+    let left : slice_index_or xs (j - 1) (pos 0) ≡ coordinate v j = sym (get_or-take n xs (j - 1) (pos 0) inside) ∙ ap (λ u. slice_index_or u (j - 1) (pos 0)) left_is in
+    let right : slice_index_or ys (j - 1) (pos 0) ≡ coordinate w j = sym (get_or-take m ys (j - 1) (pos 0) (omega arith)) ∙ ap (λ u. slice_index_or u (j - 1) (pos 0)) right_is in
+    get_or-take n zs (j - 1) (pos 0) inside ∙ (rw (left, right) at (sums (j - 1) (omega (arith, p.fits))))))

@@ -1,6 +1,6 @@
 -- Weights, simple roots, pairings and reflections (Bump and Schilling, Crystal Bases, 2017, section 2.1 and its tables).
 -- A weight is the list of its coordinates, each doubled, so that the weights of spin elements are whole numbers.
-use Rattle.std.specs.Prelude.{ℕ, ◌+◌, ◌-◌, ◌≡◌, ◌==◌, nat_lt, if◌then◌else◌, List, map, length, slice_index_or, ℤ, pos, negsuc, ◌+ℤ◌, ◌-ℤ◌, ◌*ℤ◌, ◌≤ℤ◌, All}
+use Rattle.std.specs.Prelude.{ℕ, ◌+◌, ◌-◌, ◌≡◌, ◌==◌, nat_lt, if◌then◌else◌, List, map, length, slice_index_or, ℤ, pos, negsuc, neg_ℤ, ◌+ℤ◌, ◌-ℤ◌, ◌*ℤ◌, ◌≤ℤ◌, All}
 use Rattle.std.specs.List.{range_with_len}
 use Rattle.crystal_cartan.specs.Types.{CartanType, coordinates, HasIndex}
 use Rattle.crystal_cartan.specs.declared.types.Kind.{Kind}
@@ -71,6 +71,10 @@ reflection t w i = weight_from (length w) (λ j. coordinate w j -ℤ twice_pairi
 -- the weight has the coordinates of the type
 abbrev pub IsWeight : CartanType → List ℤ → Type 0
 IsWeight t w = length w ≡ coordinates t
+
+-- a doubled coordinate between -n and n
+abbrev pub IsWithin : ℕ → ℤ → Type 0
+IsWithin n x = (neg_ℤ (pos n) ≤ℤ x) × (x ≤ℤ pos n)
 
 -- every doubled coordinate is between -1,000 and 1,000
 abbrev pub IsSmallCoordinate : ℤ → Type 0

@@ -1,5 +1,5 @@
 //! Weights with doubled coordinates.
-ghost use Rattle.std.specs.Prelude.{◌≡◌, ℕ, ◌-◌, ◌≤◌, ◌<◌, pos, length, slice_set};
+ghost use Rattle.std.specs.Prelude.{◌≡◌, ℕ, ◌-◌, ◌≤◌, ◌<◌, pos, ◌+ℤ◌, length, slice_set, slice_index_or};
 ghost use Rattle.crystal_cartan.specs.Weights.{zero_weight, coordinate, sum_of, difference_of, IsSmall};
 ghost use Rattle.crystal_cartan.specs.Types.{coordinates};
 
@@ -77,14 +77,10 @@ impl Weight {
         ensures sum { result ≡ sum_of self.now other.now }
         ensures size { length result ≡ length self.now }
     {
-        let mut sum = *self;
-        'places: for place in 0..self.coordinates() {
-            let j = place + 1;
-            let left = self.doubled_at(j);
-            let right = other.doubled_at(j);
-            sum = sum.put(j, left + right);
+        Weight {
+            doubled: sums(&self.doubled, &other.doubled),
+            size: self.size,
         }
-        sum
     }
 
     /// The difference of two weights of one type, whose doubled coordinates are between -1,000 and 1,000.
@@ -104,4 +100,18 @@ impl Weight {
         }
         difference
     }
+}
+
+/// The sums of two lists of coordinates, place by place, in a new array.
+fn sums(left: &[i32; 9], right: &[i32; 9]) -> [i32; 9]
+    requires left { IsSmall left.now }
+    requires right { IsSmall right.now }
+    ensures size { length result ≡ 9 }
+    ensures sums { (k : ℕ) → k < 9 → slice_index_or result k (pos 0) ≡ slice_index_or left.now k (pos 0) +ℤ slice_index_or right.now k (pos 0) }
+{
+    let mut sums = [0; 9];
+    'places: for place in 0..9 {
+        sums[place] = left[place] + right[place];
+    }
+    sums
 }

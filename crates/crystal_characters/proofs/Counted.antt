@@ -8,7 +8,7 @@ use Rattle.crystal_characters.specs.declared.tallies.Multiplicity.{Multiplicity}
 use Rattle.crystal_characters.specs.Characters.{weight_order, once, once_more, counted, IsFalling}
 use Rattle.crystal_characters.proofs.WeightOrder.{equal_weights, above_from_below, below_from_above, above_above}
 
-falling_tail : (m : Multiplicity) (ms : List Multiplicity) → IsFalling (m ∷ ms) → IsFalling ms
+pub falling_tail : (m : Multiplicity) (ms : List Multiplicity) → IsFalling (m ∷ ms) → IsFalling ms
 falling_tail m ms falling i j d less lt = falling (suc i) (suc j) d (omega arith) (omega arith)
 
 pub counted_last : (ms : List Multiplicity) (w : List ℤ) (k : ℕ) (d : Multiplicity) → IsFalling ms → k + 1 ≡ length ms

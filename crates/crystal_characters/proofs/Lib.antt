@@ -13,3 +13,4 @@ pub mod Characters
 pub mod Padding
 pub mod ItemLists
 pub mod Worked
+pub mod OneCharacter

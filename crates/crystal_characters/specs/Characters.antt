@@ -59,6 +59,10 @@ pub record IsCharacter (f : FinishedType) (ms : List Multiplicity) : Type 0 wher
 
 -- laws
 
+-- a graph has at most one character
+abbrev pub CharactersAreUnique : Type 0
+CharactersAreUnique = (f : FinishedType) (ms ns : List Multiplicity) → IsCharacter f ms → IsCharacter f ns → ms ≡ ns
+
 -- the weights that occur in a list, falling, each with its number of occurrences
 pub record IsTally (ws : List (List ℤ)) (ms : List Multiplicity) : Type 0 where
   pub falling : IsFalling ms

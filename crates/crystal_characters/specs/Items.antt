@@ -1,6 +1,6 @@
 -- The items of the vertices of a finished graph, as statistics are fed with them.
-use Rattle.std.specs.Prelude.{ℕ, nat_le, if◌then◌else◌, List, map, length}
-use Rattle.std.specs.List.{range_with_len}
+use Rattle.std.specs.Prelude.{ℕ, nat_le, nat_eq, if◌then◌else◌, List, [], map, length}
+use Rattle.std.specs.List.{range_with_len, list_any}
 use Rattle.crystal_cartan.specs.Weights.{IsWeight, IsSmall}
 use Rattle.tensor_words.specs.TensorRule.{action}
 use Rattle.canonical_graph.specs.Graphs.{FinishedType, code_at}
@@ -32,6 +32,10 @@ first_items f n = map (item_at f) (range_with_len 0 n)
 
 abbrev pub items_of : FinishedType → List Item
 items_of f = first_items f (length f.codes)
+
+-- of these items those with which the object at the place k is fed, where the objects at these places are chosen
+abbrev pub items_for : List ℕ → ℕ → List Item → List Item
+items_for places k items = if list_any (nat_eq k) places then items else []
 
 -- the weight of the item has the size of its type, and doubled coordinates between -1,000 and 1,000
 pub record IsFit (x : Item) : Type 0 where

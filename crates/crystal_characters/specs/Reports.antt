@@ -29,11 +29,11 @@ abbrev pub phi_at : ℕ → Item → ℕ
 phi_at i x = slice_index x.phi (i - 1)
 
 -- whether e_i gives zero on the item, and those of a list for which it does
-abbrev pub is_top : ℕ → Item → Bool
-is_top i x = eps_at i x == 0
+abbrev pub is_head : ℕ → Item → Bool
+is_head i x = eps_at i x == 0
 
-abbrev pub tops : ℕ → List Item → List Item
-tops i items = filter (is_top i) items
+abbrev pub heads : ℕ → List Item → List Item
+heads i items = filter (is_head i) items
 
 -- the greatest of some numbers, 0 where there is none
 abbrev pub greatest : List ℕ → ℕ
@@ -42,7 +42,7 @@ greatest ns = fold max 0 ns
 -- the report `strings`: for each index i of the first item's type a line `i | N | M`, where N items have eps_i = 0,
 -- and M is the greatest phi_i of these
 unfoldable pub string_text : List Item → ℕ → List ℕ
-string_text items i = decimal i ++ bar ++ decimal (length (tops i items)) ++ bar ++ decimal (greatest (map (phi_at i) (tops i items)))
+string_text items i = decimal i ++ bar ++ decimal (length (heads i items)) ++ bar ++ decimal (greatest (map (phi_at i) (heads i items)))
 
 abbrev pub string_lines : List Item → ℕ → List ℕ
 string_lines items n = flat_map (λ i. ended (string_text items i)) (range_with_len 1 n)

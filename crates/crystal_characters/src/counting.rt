@@ -24,7 +24,7 @@ fn weights(alloc: Global, finished: &Finished) -> Result<Vec<Weight>, NoMemory>
     let mut list = Vec::new(alloc);
     'ranks: for rank in 0..finished.len() {
         let word = finished.word_at(rank);
-        list.push(finished.space().weight(&word))?;
+        list.push(finished.steps().weight(&word))?;
     }
     Ok(list)
 }

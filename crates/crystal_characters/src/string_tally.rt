@@ -1,6 +1,6 @@
 //! The statistic `strings`.
 ghost use Rattle.std.specs.Prelude.{◌≡◌, ◌<◌, ◌≤◌, ℕ, [], length, map};
-ghost use Rattle.crystal_characters.specs.Reports.{string_report, string_text, string_lines, tops, greatest, phi_at, Appends};
+ghost use Rattle.crystal_characters.specs.Reports.{string_report, string_text, string_lines, heads, greatest, phi_at, Appends};
 
 use crate::items::Item;
 use crate::printing::{print_number, push_line};
@@ -84,16 +84,16 @@ fn string_line(items: &[Item], i: u8) -> Line
     let mut line = Line::new();
     print_number(u64::from(i), &mut line);
     line.text(b" | ");
-    print_number(top_count(items, i), &mut line);
+    print_number(head_count(items, i), &mut line);
     line.text(b" | ");
     print_number(u64::from(longest(items, i)), &mut line);
     line
 }
 
 /// The number of items that e_i takes to zero.
-fn top_count(items: &[Item], i: u8) -> u64
+fn head_count(items: &[Item], i: u8) -> u64
     requires { (1 ≤ i) × (i ≤ 8) }
-    ensures { result ≡ length (tops i items.now) }
+    ensures { result ≡ length (heads i items.now) }
 {
     items
         .iter()
@@ -104,7 +104,7 @@ fn top_count(items: &[Item], i: u8) -> u64
 /// The greatest phi_i of these items, 0 where there is none.
 fn longest(items: &[Item], i: u8) -> u32
     requires { (1 ≤ i) × (i ≤ 8) }
-    ensures { result ≡ greatest (map (phi_at i) (tops i items.now)) }
+    ensures { result ≡ greatest (map (phi_at i) (heads i items.now)) }
 {
     let mut longest = 0u32;
     'items: for item in items {

@@ -62,7 +62,11 @@ impl Line {
         ensures appends { self.new ≡ self.old ++ signed_decimal value }
         ensures fits { length self.new ≤ length self.old + 20 }
     {
-        let mut digits = Buffer::new();
-        self.text(digits.format(value).as_bytes());
+        if 0 <= value && value < 10 {
+            self.text(&[b'0' + value as u8]);
+        } else {
+            let mut digits = Buffer::new();
+            self.text(digits.format(value).as_bytes());
+        }
     }
 }

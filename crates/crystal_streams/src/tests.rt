@@ -149,10 +149,60 @@ fn the_edge_counts_failures(rt: HostRuntime) -> Result<(), Fail> {
     Ok(())
 }
 
+// Gives so many bytes, as many a read as are asked for.
+#[derive(Drop)]
+struct Spring {
+    left: usize,
+}
+
+impl Read for Spring {
+    fn read(&mut self, buf: &mut [u8]) -> io::Result<usize> {
+        let count = buf.len().min(self.left);
+        self.left -= count;
+        Ok(count)
+    }
+}
+
+// Takes so many bytes, all that it is given at once, and refuses further ones.
+#[derive(Drop)]
+struct Barrel {
+    room: usize,
+}
+
+impl Write for Barrel {
+    fn write(&mut self, buf: &[u8]) -> io::Result<usize> {
+        if self.room == 0 {
+            return Err(io::Error::from(ErrorKind::Other));
+        }
+        let count = buf.len().min(self.room);
+        self.room -= count;
+        Ok(count)
+    }
+
+    fn flush(&mut self) -> io::Result<()> {
+        Ok(())
+    }
+}
+
+#[test]
+fn the_edge_loses_and_repeats_no_byte(rt: HostRuntime) -> Result<(), Fail> {
+    let mut input = InputAdapter::new(Spring { left: 10000 });
+    let read = read_all(rt.alloc(), &mut input, 20000);
+    assert_eq!(rt; read.map(|bytes| bytes.len()), Ok(10000));
+    let bytes = many(rt.alloc(), 10000)?;
+    for (room, answer) in [(10000, Ok(())), (9999, Err(WriteFault))] {
+        let mut output = OutputAdapter::new(Barrel { room });
+        assert_eq!(rt; write_all(&mut output, &bytes), answer, "room {room}");
+    }
+    Ok(())
+}
+
 #[test]
 fn lines_of_text_and_numbers(rt: HostRuntime) {
     for (value, text) in [
         (0, "0"),
+        (9, "9"),
+        (10, "10"),
         (-1, "-1"),
         (i64::MIN, "-9223372036854775808"),
         (i64::MAX, "9223372036854775807"),

@@ -26,7 +26,7 @@ lowering_rises : (s : SpaceType) (i c d : ℕ) → IsSpace s → HasIndex s.cart
 unfolding op
 lowering_rises s i c d space index below leads =
     let m : (v : List ℕ) × (acted s (lowering i) (word_of s c) ≡ Some v) × (code_of s v ≡ d) = mapped_some (code_of s) (acted s (lowering i) (word_of s c)) d leads in
-    let own = (codes_correspond s space).0 c below in
+    let own = (codes_correspond s (factors_of_space s space)).0 c below in
     let factors = factors_of_space s space in
     let back : (action s i).raise m.0 ≡ Some (word_of s c) = (seminormal_word s i (word_of s c) factors index own.0).raised_back m.0 m.1 in
     let word : IsWord s m.0 = acted_keeps s (lowering i) (word_of s c) m.0 space (record { index = index }) own.0 m.1 in

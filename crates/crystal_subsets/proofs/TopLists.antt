@@ -13,12 +13,12 @@ use Rattle.crystal_subsets.proofs.RankLists.{kept_more}
 abbrev pub tops_below : FinishedType → List ℤ → ℕ → List (ℕ × List ℤ)
 tops_below f weight n = map (top_entry f weight) (filter (λ rank. is_top_beside f.space weight (vertex_word f rank)) (range_with_len 0 n))
 
-pub top_added : (f : FinishedType) (weight own sum : List ℤ) (n : ℕ) (old new : List (ℕ × List ℤ)) (s u : SpaceType) (w : List ℕ)
-    → s ≡ f.space → u ≡ f.space → w ≡ vertex_word f n → true ≡ is_top_beside s weight w → own ≡ word_weight u w → sum ≡ sum_of own weight
+pub top_added : (f : FinishedType) (weight own sum : List ℤ) (n : ℕ) (old new : List (ℕ × List ℤ)) (s : SpaceType) (w : List ℕ)
+    → s ≡ f.space → w ≡ vertex_word f n → true ≡ is_top_beside s weight w → own ≡ word_weight s w → sum ≡ sum_of own weight
     → old ≡ tops_below f weight n → new ≡ old ++ (n, sum) ∷ [] → new ≡ tops_below f weight (n + 1)
-top_added f weight own sum n old new s u w space again word passes is_own total before is =
+top_added f weight own sum n old new s w space word passes is_own total before is =
     let top : is_top_beside f.space weight (vertex_word f n) ≡ true = rw (space, word) at (sym passes) in
-    let own_is : own ≡ word_weight f.space (vertex_word f n) = rw (again, word) at is_own in
+    let own_is : own ≡ word_weight f.space (vertex_word f n) = rw (space, word) at is_own in
     let more = kept_more (λ rank. is_top_beside f.space weight (vertex_word f rank)) n in
     rw (is, before, more, top, map-append, total, own_is) refl
 

@@ -1,13 +1,16 @@
 -- The tops of a tensor product (Bump and Schilling, Crystal Bases, 2017, section 2.3): a word is a top where every eps is 0.
+-- The weights and the inequality are the same in both tensor orders; eps is that of the space's order.
 use Rattle.std.specs.Prelude.{ℕ, ◌*◌, ◌<◌, ◌↔◌, Bool, IsTrue, List, ◌++◌, map, filter, length, Contains, ℤ, pos, int_le}
 use Rattle.std.specs.List.{list_all, range_with_len}
 use Rattle.crystal_cartan.specs.Types.{CartanType}
 use Rattle.crystal_cartan.specs.Weights.{twice_pairing, sum_of}
 use Rattle.tensor_words.specs.declared.spaces.Factor.{Factor}
-use Rattle.tensor_words.specs.Spaces.{SpaceType, tensor_space, HasFactors, word_weight}
+use Rattle.tensor_words.specs.declared.spaces.Order.{Order}
+use Rattle.tensor_words.specs.declared.spaces.Order.TheVariants.{Standard, Kashiwara}
+use Rattle.tensor_words.specs.Spaces.{SpaceType, tensor_space, ordered, HasFactors, word_weight}
 use Rattle.tensor_words.specs.Codes.{IsWord}
 use Rattle.tensor_words.specs.TensorRule.{action}
-use Rattle.signature_rule.specs.Lifts.{IsTop}
+use Rattle.tensor_words.specs.Operators.{IsTop}
 use Rattle.canonical_graph.specs.Graphs.{FinishedType, IsFinished}
 use Rattle.canonical_graph.specs.Texts.{vertex_word}
 
@@ -29,21 +32,29 @@ top_ranks f weight = filter (λ rank. is_top_beside f.space weight (vertex_word 
 abbrev pub tops_beside : FinishedType → List ℤ → List (ℕ × List ℤ)
 tops_beside f weight = map (top_entry f weight) (top_ranks f weight)
 
+-- two words, or their factors, one behind the other: that of the vertex first in the standard order, last in Kashiwara's
+abbrev pub one_behind : {E : Type 0} → Order → List E → List E → List E
+one_behind Standard x y = x ++ y
+one_behind Kashiwara x y = y ++ x
+
 -- laws
 
--- x ⊗ y is a top exactly where y is one, and x is one beside the weight of y; for any factors of one type
+-- In the standard order x ⊗ y is a top exactly where y is one, and x is one beside the weight of y; in Kashiwara's order
+-- the same holds of y ⊗ x. It holds for words over any factors of one type.
 abbrev pub TopsOfProducts : Type 0
 TopsOfProducts =
-    (t : CartanType) (fs gs : List Factor) (x y : List ℕ) → HasFactors (tensor_space t fs) → HasFactors (tensor_space t gs)
+    (o : Order) (t : CartanType) (fs gs : List Factor) (x y : List ℕ) → HasFactors (tensor_space t fs) → HasFactors (tensor_space t gs)
     → IsWord (tensor_space t fs) x → IsWord (tensor_space t gs) y
-    → IsTop (tensor_space t (fs ++ gs)) (x ++ y)
-    ↔ (IsTop (tensor_space t gs) y × IsTrue (is_top_beside (tensor_space t fs) (word_weight (tensor_space t gs) y) x))
+    → IsTop (ordered o (tensor_space t (one_behind o fs gs))) (one_behind o x y)
+    ↔ (IsTop (ordered o (tensor_space t gs)) y × IsTrue (is_top_beside (ordered o (tensor_space t fs)) (word_weight (tensor_space t gs) y) x))
 
--- for a vertex x of a finished graph and every top y over any factors of its type, x ⊗ y is a top exactly where the
--- rank of x is listed
+-- for a vertex x of a finished graph and every top y over any factors of its type, x ⊗ y, or in Kashiwara's order y ⊗ x,
+-- is a top exactly where the rank of x is listed
 abbrev pub ListedTops : Type 0
 ListedTops =
     (f : FinishedType) (rank : ℕ) (gs : List Factor) (y : List ℕ) → IsFinished f → rank < length f.codes
-    → HasFactors (tensor_space f.space.cartan gs) → IsWord (tensor_space f.space.cartan gs) y → IsTop (tensor_space f.space.cartan gs) y
-    → IsTop (tensor_space f.space.cartan (f.space.factors ++ gs)) (vertex_word f rank ++ y)
+    → HasFactors (tensor_space f.space.cartan gs) → IsWord (tensor_space f.space.cartan gs) y
+    → IsTop (ordered f.space.order (tensor_space f.space.cartan gs)) y
+    → IsTop (ordered f.space.order (tensor_space f.space.cartan (one_behind f.space.order f.space.factors gs)))
+    (one_behind f.space.order (vertex_word f rank) y)
     ↔ Contains (top_ranks f (word_weight (tensor_space f.space.cartan gs) y)) rank

@@ -6,7 +6,7 @@ use Rattle.job_text.specs.declared.drafts.State.{State}
 use Rattle.job_text.specs.declared.jobs.Job.{Job}
 use Rattle.job_text.specs.declared.faults.JobFault.{JobFault}
 use Rattle.job_text.specs.declared.faults.JobFault.TheVariants.{At, NoMemory}
-use Rattle.job_text.specs.Outcomes.{Tells}
+use Rattle.job_text.specs.Outcomes.{GivesAtLine}
 use Rattle.job_text.specs.Judge.{and_then, at_line, line_made, judged_from}
 
 -- a line that has its end is judged before what follows
@@ -18,12 +18,12 @@ line_first n state line rest =
     rw here refl
 
 -- a line without a fault leads to the next
-pub line_taken : (n : ℕ) (state after : State) (line rest : List ℕ) → Tells (Ok after) (at_line n (line_made line state)) →
+pub line_taken : (n : ℕ) (state after : State) (line rest : List ℕ) → GivesAtLine (Ok after) (at_line n (line_made line state)) →
     judged_from n state (line ∷ pieces 10 rest) ≡ judged_from (n + 1) after (pieces 10 rest)
 line_taken n state after line rest told = rw (line_first n state line rest, told) refl
 
 -- the fault of a line is the fault of the text
 pub line_refused : (n : ℕ) (state : State) (fault : JobFault) (line rest : List ℕ) →
-    Tells {T = State} (Err fault) (at_line n (line_made line state)) → Tells {T = Job} (Err fault) (judged_from n state (line ∷ pieces 10 rest))
+    GivesAtLine {T = State} (Err fault) (at_line n (line_made line state)) → GivesAtLine {T = Job} (Err fault) (judged_from n state (line ∷ pieces 10 rest))
 line_refused n state (At m why) line rest told = rw (line_first n state line rest, told) refl
 line_refused n state NoMemory line rest told = tt

@@ -4,7 +4,6 @@ use Rattle.job_text.specs.Drafts.{Drafted, IsDraft}
 
 abbrev pub draft_seen : Inside → Drafted
 draft_seen d = record {
-  part = d.part;
   space = d.space;
   top = d.top;
   starts = d.starts.items;

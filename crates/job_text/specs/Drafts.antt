@@ -1,17 +1,21 @@
 -- What is known of a job while its lines are read.
 use Rattle.std.specs.Prelude.{ℕ, ◌-◌, ◌<◌, ◌≤◌, List, [], ◌∷◌, ◌++◌, length, slice_index_or, slice_set, Option, Some, None, unwrap_or, All, IfSome}
 use Rattle.tensor_words.specs.Spaces.{SpaceType, IsSpace, size}
+use Rattle.tensor_words.specs.declared.spaces.Order.{Order}
+use Rattle.tensor_words.specs.declared.spaces.Order.TheVariants.{Standard}
+use Rattle.job_text.specs.declared.drafts.TypedHead.{TypedHead}
 use Rattle.job_text.specs.declared.commands.Command.{Command}
 use Rattle.job_text.specs.declared.commands.Ask.{Ask}
-use Rattle.job_text.specs.declared.keys.Part.{Part}
-use Rattle.job_text.specs.declared.keys.Part.TheVariants as part
 use Rattle.job_text.specs.declared.jobs.Job.{Job}
 use Rattle.job_text.specs.Jobs.{IsScript, IsAsk, roots_of}
 
--- from the line `shape` or `space` on: the part, the space, the top word's code where a shape gave the space,
+-- the tensor order of a job: the standard one where no line gave it
+abbrev pub order_of : TypedHead → Order
+order_of head = unwrap_or head.order Standard
+
+-- from the line `shape` or `space` on: the space, the top word's code where a shape gave the space,
 -- the codes of the `start` lines, the number of cells where a line gave it, the scripts and the asks so far
 pub record Drafted : Type 0 where
-  pub part : Part
   pub space : SpaceType
   pub top : Option ℕ
   pub starts : List ℕ
@@ -33,7 +37,7 @@ pub record IsDraft (d : Drafted) : Type 0 where
 
 -- behind the line `shape` or `space`
 abbrev pub fresh : SpaceType → Option ℕ → Drafted
-fresh s top = record { part = part.Head; space = s; top = top; starts = []; cells = None; scripts = []; asks = [] }
+fresh s top = record { space = s; top = top; starts = []; cells = None; scripts = []; asks = [] }
 
 -- the script of the session that was begun last
 abbrev pub last_script : Drafted → List Command
@@ -47,13 +51,13 @@ abbrev pub with_cells : Drafted → ℕ → Drafted
 with_cells d n = record d { cells = Some n }
 
 abbrev pub with_session : Drafted → Drafted
-with_session d = record d { part = part.Session; scripts = d.scripts ++ [] ∷ [] }
+with_session d = record d { scripts = d.scripts ++ [] ∷ [] }
 
 abbrev pub with_command : Drafted → Command → Drafted
 with_command d c = record d { scripts = slice_set d.scripts (length d.scripts - 1) (last_script d ++ c ∷ []) }
 
 abbrev pub with_ask : Drafted → Ask → Drafted
-with_ask d a = record d { part = part.Asks; asks = d.asks ++ a ∷ [] }
+with_ask d a = record d { asks = d.asks ++ a ∷ [] }
 
 -- all starts: the top word's code before those of the `start` lines
 abbrev pub starts_from : Option ℕ → List ℕ → List ℕ

@@ -22,10 +22,10 @@ IsCommand s (Wt c) = c < size s
 IsCommand s (Eps i c) = HasIndex s.cartan i × (c < size s)
 IsCommand s (Phi i c) = HasIndex s.cartan i × (c < size s)
 
--- an ask speaks of indices and shapes of the type
+-- an ask speaks of indices of the type, and of shapes of the type in the space's tensor order
 abbrev pub IsAsk : SpaceType → Ask → Type 0
 IsAsk s (Demazure list) = All (HasIndex s.cartan) list × (1 ≤ length list) × (length list ≤ 64)
-IsAsk s (Tops shape) = IsShape shape × (shape.cartan ≡ s.cartan)
+IsAsk s (Tops shape) = IsShape shape × (shape.cartan ≡ s.cartan) × (shape.order ≡ s.order)
 IsAsk s (Reflect i) = HasIndex s.cartan i
 
 -- the codes that the `add` commands of a script put in

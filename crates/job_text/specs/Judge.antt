@@ -8,11 +8,13 @@ use Rattle.crystal_cartan.specs.declared.types.Kind.TheVariants as kind
 use Rattle.crystal_cartan.specs.declared.types.Arrow.{Arrow}
 use Rattle.tensor_words.specs.declared.spaces.Factor.{Factor}
 use Rattle.tensor_words.specs.declared.spaces.Factor.TheVariants.{Vector, Spin, SpinPlus, SpinMinus}
-use Rattle.tensor_words.specs.Spaces.{SpaceType, space_of}
+use Rattle.tensor_words.specs.declared.spaces.Order.{Order as TensorOrder}
+use Rattle.tensor_words.specs.declared.spaces.Order.TheVariants.{Standard, Kashiwara}
+use Rattle.tensor_words.specs.Spaces.{SpaceType, space_of, ordered}
 use Rattle.tensor_words.specs.Codes.{code_of}
 use Rattle.text_pieces.specs.Pieces.{pieces, words, at, are_printed}
 use Rattle.text_pieces.specs.Numbers.{number_of, all_some}
-use Rattle.tableau_reading.specs.Shapes.{ShapeType, shape_of, shape_space}
+use Rattle.tableau_reading.specs.Shapes.{ShapeType, shape_of, shape_in, shape_space}
 use Rattle.tableau_reading.specs.Readings.{top_word}
 use Rattle.tableau_reading.specs.Tokens.{word_read}
 use Rattle.job_text.specs.declared.commands.Command.{Command}
@@ -22,17 +24,22 @@ use Rattle.job_text.specs.declared.faults.JobWhy.{JobWhy}
 use Rattle.job_text.specs.declared.faults.JobWhy.TheVariants.{BadByte, BadHeader, UnknownLine, Misplaced, BadNumber, RankRange, BadShape}
 use Rattle.job_text.specs.declared.faults.JobWhy.TheVariants.{BadSpace, BadWord, BadIndex, CellsRange, Missing, TooMany}
 use Rattle.job_text.specs.declared.keys.Key.{Key}
-use Rattle.job_text.specs.declared.keys.Key.TheVariants.{Typing, Shape, Space, Start, Cells, Session, Add, Find, Wt}
+use Rattle.job_text.specs.declared.keys.Key.TheVariants.{Typing, Order, Shape, Space, Start, Cells, Session, Add, Find, Wt}
 use Rattle.job_text.specs.declared.keys.Key.TheVariants.{Lower, Raise, Look, Eps, Phi, Demazure, Tops, Reflect}
-use Rattle.job_text.specs.declared.keys.Part.{Part}
+use Rattle.job_text.specs.declared.keys.Version.{Version}
+use Rattle.job_text.specs.declared.keys.Version.TheVariants.{One, Two}
 use Rattle.job_text.specs.declared.keys.Part.TheVariants as part
 use Rattle.job_text.specs.declared.keys.Rule.{Rule}
+use Rattle.job_text.specs.declared.drafts.TypedHead.{TypedHead}
+use Rattle.job_text.specs.declared.drafts.Known.{Known}
+use Rattle.job_text.specs.declared.drafts.Known.TheVariants.{Nothing, Typed, Begun}
+use Rattle.job_text.specs.declared.drafts.Progress.{Progress}
 use Rattle.job_text.specs.declared.drafts.State.{State}
-use Rattle.job_text.specs.declared.drafts.State.TheVariants.{Unread, Open, Typed, Begun}
+use Rattle.job_text.specs.declared.drafts.State.TheVariants.{Unread, Headed}
 use Rattle.job_text.specs.Faults.{Refusal}
 use Rattle.job_text.specs.Rules.{rule_of, is_count, is_between}
 use Rattle.job_text.specs.declared.jobs.Job.{Job}
-use Rattle.job_text.specs.Drafts.{Drafted, fresh, last_script, with_start, with_cells, with_session, with_command, with_ask, job_of}
+use Rattle.job_text.specs.Drafts.{Drafted, order_of, fresh, last_script, with_start, with_cells, with_session, with_command, with_ask, job_of}
 
 -- what a judgement gives, or the fault
 abbrev pub Judged : Type 0 → Type 0
@@ -60,13 +67,19 @@ abbrev pub ok_map : {S T E : Type 0} → (S → T) → Result S E → Result T E
 ok_map make (Ok x) = Ok (make x)
 ok_map make (Err e) = Err e
 
--- the kinds and the factors by their words
+-- the kinds, the tensor orders and the factors by their words
 abbrev pub kind_of : List ℕ → Option Kind
 kind_of text =
     if bytes_eq text (codes "A") then Some kind.A
     else if bytes_eq text (codes "B") then Some kind.B
     else if bytes_eq text (codes "C") then Some kind.C
     else if bytes_eq text (codes "D") then Some kind.D
+    else None
+
+abbrev pub order_named : List ℕ → Option TensorOrder
+order_named text =
+    if bytes_eq text (codes "standard") then Some Standard
+    else if bytes_eq text (codes "kashiwara") then Some Kashiwara
     else None
 
 abbrev pub factor_of : List ℕ → Option Factor
@@ -97,16 +110,16 @@ indexed s text = and_then (numbered text) (λ i. unless (is_index s i) BadIndex 
 abbrev pub all_indexed : SpaceType → List (List ℕ) → Judged (List ℕ)
 all_indexed s args = and_then (all_numbered args) (λ list. unless (list_all (is_index s) list) BadIndex (Ok list))
 
--- the factors with these words, and their space
+-- the factors with these words, and their space in a tensor order
 abbrev pub factored : List (List ℕ) → Judged (List Factor)
 factored args = found BadSpace (all_some factor_of args)
 
-abbrev pub spaced : List (List ℕ) → CartanType → Judged SpaceType
-spaced args t = and_then (factored args) (λ factors. found_ok BadSpace (space_of t factors))
+abbrev pub spaced : TensorOrder → List (List ℕ) → CartanType → Judged SpaceType
+spaced o args t = and_then (factored args) (λ factors. ok_map (ordered o) (found_ok BadSpace (space_of t factors)))
 
--- the shape with rows of these lengths
-abbrev pub shaped : CartanType → List (List ℕ) → Judged ShapeType
-shaped t args = and_then (all_numbered args) (λ rows. found_ok BadShape (shape_of t rows))
+-- the shape with rows of these lengths, in a tensor order
+abbrev pub shaped : TensorOrder → CartanType → List (List ℕ) → Judged ShapeType
+shaped o t args = and_then (all_numbered args) (λ rows. ok_map (shape_in o) (found_ok BadShape (shape_of t rows)))
 
 -- the code of the word with these tokens
 abbrev pub coded : SpaceType → List (List ℕ) → Judged ℕ
@@ -129,6 +142,7 @@ celled args d = and_then (numbered (at args 0)) (λ n. unless (nat_le 1 n && nat
 -- what the line of a key word makes of a draft
 unfoldable pub drafted : Key → List (List ℕ) → Drafted → Judged Drafted
 drafted Typing args d = Err Misplaced
+drafted Order args d = Err Misplaced
 drafted Shape args d = Err Misplaced
 drafted Space args d = Err Misplaced
 drafted Start args d = ok_map (with_start d) (coded d.space args)
@@ -143,35 +157,32 @@ drafted Eps args d = commanded_at d args (λ i c. command.Eps i c)
 drafted Phi args d = commanded_at d args (λ i c. command.Phi i c)
 drafted Look args d = commanded_at d (drop 1 args) (λ i c. command.Look (arrow (bytes_eq (at args 0) (codes "f")) i) c)
 drafted Demazure args d = ok_map (λ list. with_ask d (ask.Demazure list)) (all_indexed d.space args)
-drafted Tops args d = ok_map (λ shape. with_ask d (ask.Tops shape)) (shaped d.space.cartan args)
+drafted Tops args d = ok_map (λ shape. with_ask d (ask.Tops shape)) (shaped d.space.order d.space.cartan args)
 drafted Reflect args d = ok_map (λ i. with_ask d (ask.Reflect i)) (indexed d.space (at args 0))
 
--- what the line `shape` or `space` makes of a type
-unfoldable pub placed : Key → List (List ℕ) → CartanType → Judged Drafted
-placed Shape args t =
-    ok_map (λ shape. fresh (shape_space shape) (Some (code_of (shape_space shape) (top_word shape)))) (shaped t args)
-placed Space args t = ok_map (λ s. fresh s None) (spaced args t)
-placed _ args t = Err Misplaced
+-- the head with the tensor order that a word names
+abbrev pub with_order : TypedHead → TensorOrder → TypedHead
+with_order head o = record head { order = Some o }
+
+-- what the line `order`, `shape` or `space` makes of a head
+unfoldable pub placed : Key → List (List ℕ) → TypedHead → Judged Known
+placed Order args head = ok_map (λ o. Typed (with_order head o)) (found BadSpace (order_named (at args 0)))
+placed Shape args head =
+    ok_map (λ shape. Begun (fresh (shape_space shape) (Some (code_of (shape_space shape) (top_word shape))))) (shaped (order_of head) head.cartan args)
+placed Space args head = ok_map (λ s. Begun (fresh s None)) (spaced (order_of head) args head.cartan)
+placed _ args head = Err Misplaced
 
 -- the type that the line `type` gives
 abbrev pub typed : List (List ℕ) → Judged CartanType
 typed args = and_then (numbered (at args 1)) (λ rank. found RankRange (option_and_then (ranked rank) (kind_of (at args 0))))
 
--- what the line of a key word makes of a state
-unfoldable pub made : Key → List (List ℕ) → State → Judged State
-made key args Unread = Err Misplaced
-made key args Open = ok_map (λ t. Typed (record { cartan = t })) (typed args)
-made key args (Typed head) = ok_map (λ d. Begun d) (placed key args head.cartan)
+-- what the line of a key word makes of what is known
+unfoldable pub made : Key → List (List ℕ) → Known → Judged Known
+made key args Nothing = ok_map (λ t. Typed (record { cartan = t; order = None })) (typed args)
+made key args (Typed head) = placed key args head
 made key args (Begun d) = ok_map (λ d. Begun d) (drafted key args d)
 
--- the part of a state
-abbrev pub part_of : State → Part
-part_of Unread = part.Opening
-part_of Open = part.Opening
-part_of (Typed head) = part.Typed
-part_of (Begun d) = d.part
-
--- whether a draft, or a state, has room for the line
+-- whether a draft, or what is known, has room for the line
 abbrev pub draft_has_room : Key → List (List ℕ) → Drafted → Bool
 draft_has_room Start args d = nat_lt (length d.starts) 256
 draft_has_room Cells args d = true
@@ -181,53 +192,69 @@ draft_has_room Tops args d = nat_lt (length d.asks) 8
 draft_has_room Reflect args d = nat_lt (length d.asks) 8
 draft_has_room _ args d = nat_lt (length (last_script d)) 4096
 
-unfoldable pub has_room : Key → List (List ℕ) → State → Bool
+unfoldable pub has_room : Key → List (List ℕ) → Known → Bool
 has_room key args (Begun d) = draft_has_room key args d
 has_room key args _ = true
 
--- a second line `cells` is misplaced
-abbrev pub is_second_cells : Key → State → Bool
-is_second_cells Cells (Begun d) = is_some d.cells
-is_second_cells _ _ = false
+-- a second line `cells` or `order` is misplaced
+abbrev pub is_second : Key → Known → Bool
+is_second Cells (Begun d) = is_some d.cells
+is_second Order (Typed head) = is_some head.order
+is_second _ _ = false
 
-abbrev pub is_placed : Rule → State → Bool
-is_placed rule state = is_between rule.first rule.last (part_of state) && not (is_second_cells rule.key state)
+abbrev pub is_placed : Rule → Progress → Bool
+is_placed r p = is_between r.first r.last p.part && not (is_second r.key p.known)
 
 -- behind `look` stands f or e
 abbrev pub is_formed : Key → List (List ℕ) → Bool
 is_formed Look args = bytes_eq (at args 0) (codes "f") || bytes_eq (at args 0) (codes "e")
 is_formed _ args = true
 
--- the line of a key word, its faults in their order
-unfoldable pub ruled : Rule → List (List ℕ) → State → Judged State
-ruled rule args state =
-    unless (is_count rule.count (length args) && is_formed rule.key args) UnknownLine
-    (unless (is_placed rule state) Misplaced
-    (unless (has_room rule.key args state) TooMany
-    (made rule.key args state)))
+-- the line of a key word, its faults in their order; behind it stands the part that its rule names
+abbrev pub behind : Rule → Progress → Known → Progress
+behind r p known = record { version = p.version; part = r.next; known = known }
+
+unfoldable pub ruled : Rule → List (List ℕ) → Progress → Judged Progress
+ruled r args p =
+    unless (is_count r.count (length args) && is_formed r.key args) UnknownLine
+    (unless (is_placed r p) Misplaced
+    (unless (has_room r.key args p.known) TooMany
+    (ok_map (behind r p) (made r.key args p.known))))
 
 -- a line behind the header, by its words; one with no word, and a comment, is passed over
-unfoldable pub worded : List (List ℕ) → State → Judged State
-worded [] state = Ok state
-worded (word ∷ args) state =
-    if slice_index_or word 0 0 == 35 then Ok state
-    else and_then (found UnknownLine (rule_of word)) (λ rule. ruled rule args state)
+unfoldable pub worded : List (List ℕ) → Progress → Judged Progress
+worded [] p = Ok p
+worded (word ∷ args) p =
+    if slice_index_or word 0 0 == 35 then Ok p
+    else and_then (found UnknownLine (rule_of p.version word)) (λ r. ruled r args p)
 
--- the first line is the header, and no other
-abbrev pub begun : List ℕ → State → Judged State
-begun line Unread = unless (bytes_eq line (codes "crystal-job 1")) BadHeader (Ok Open)
-begun line state = worded (words line) state
+-- the version that a header tells
+abbrev pub version_of : List ℕ → Option Version
+version_of line =
+    if bytes_eq line (codes "crystal-job 1") then Some One
+    else if bytes_eq line (codes "crystal-job 2") then Some Two
+    else None
+
+-- the first line is a header, and no other
+abbrev pub begun : Version → Progress
+begun version = record { version = version; part = part.Opening; known = Nothing }
+
+abbrev pub stepped : List ℕ → State → Judged State
+stepped line Unread = ok_map (λ version. Headed (begun version)) (found BadHeader (version_of line))
+stepped line (Headed p) = ok_map (λ after. Headed after) (worded (words line) p)
 
 -- what a line makes of a state
 unfoldable pub line_made : List ℕ → State → Judged State
-line_made line state = unless (are_printed line) BadByte (begun line state)
+line_made line state = unless (are_printed line) BadByte (stepped line state)
 
--- what a state gives behind the last line
+-- what is known behind the last line gives
+abbrev pub finished : Known → Judged Job
+finished (Begun d) = unless (is_some d.top || not (length d.starts == 0)) Missing (Ok (job_of d))
+finished _ = Err Missing
+
 unfoldable pub ended : State → Judged Job
 ended Unread = Err BadHeader
-ended Open = Err Missing
-ended (Typed head) = Err Missing
-ended (Begun d) = unless (is_some d.top || not (length d.starts == 0)) Missing (Ok (job_of d))
+ended (Headed p) = finished p.known
 
 -- what stands behind the last end of a line: nothing, or a line that is not ended
 abbrev pub tail_judged : List ℕ → State → Judged Job

@@ -14,10 +14,10 @@ Gives (Err (stop.Why why)) judged = judged ≡ Err why
 Gives (Err stop.NoMemory) judged = Unit {0}
 
 -- a line, or a whole text, gives what it is judged to give, or its first fault
-abbrev pub Tells : {T : Type 0} → Result T JobFault → Result T Refusal → Type 0
-Tells (Ok x) judged = judged ≡ Ok x
-Tells (Err (At line why)) judged = judged ≡ Err (record { line = line; why = why })
-Tells (Err NoMemory) judged = Unit {0}
+abbrev pub GivesAtLine : {T : Type 0} → Result T JobFault → Result T Refusal → Type 0
+GivesAtLine (Ok x) judged = judged ≡ Ok x
+GivesAtLine (Err (At line why)) judged = judged ≡ Err (record { line = line; why = why })
+GivesAtLine (Err NoMemory) judged = Unit {0}
 
 -- the fault of a job whose line stops so
 abbrev pub fault_at : ℕ → Stop → JobFault

@@ -17,7 +17,7 @@ use crystal_cartan::{Cartan, Kind};
 use std::alloc::{AllocError, Global};
 use std::marker::Model;
 use tableau_reading::{Shape, read_word};
-use tensor_words::{Factor, Space};
+use tensor_words::{Factor, Order, Space};
 use text_pieces::{behind, first, first_word, number_of};
 
 /// Numbers below 10^9.
@@ -224,16 +224,33 @@ pub(crate) fn typed(text: &[u8]) -> Result<Cartan, Stop>
     }
 }
 
-/// The shape whose rows have these lengths.
-pub(crate) fn shaped(alloc: Global, text: &[u8], cartan: Cartan) -> Result<Shape, Stop>
-    ensures given { Gives result (spec.shaped cartan (words text.now)) }
+/// The shape whose rows have these lengths, in a tensor order.
+pub(crate) fn shaped(
+    alloc: Global,
+    text: &[u8],
+    cartan: Cartan,
+    order: Order,
+) -> Result<Shape, Stop>
+    ensures given { Gives result (spec.shaped order cartan (words text.now)) }
     ensures shape { IfOk result IsShape }
     ensures cartan { IfOk result (λ shape. shape.cartan ≡ cartan) }
+    ensures order { IfOk result (λ shape. shape.order ≡ order) }
 {
     let rows = all_numbered(alloc, text)?;
     match Shape::new(rows.as_slice(), cartan) {
-        Ok(shape) => Ok(shape),
+        Ok(shape) => Ok(shape.ordered(order)),
         Err(_) => Err(Stop::Why(JobWhy::BadShape)),
+    }
+}
+
+/// The tensor order that a word names.
+pub(crate) fn order_named(word: &[u8]) -> Result<Order, Stop>
+    ensures { Gives result (spec.found JobWhy.BadSpace (spec.order_named word.now)) }
+{
+    match word {
+        b"standard" => Ok(Order::Standard),
+        b"kashiwara" => Ok(Order::Kashiwara),
+        _ => Err(Stop::Why(JobWhy::BadSpace)),
     }
 }
 
@@ -266,14 +283,19 @@ fn factored(alloc: Global, text: &[u8]) -> Result<Factors, Stop>
     Ok(factors)
 }
 
-/// The space whose factors the words of a text name.
-pub(crate) fn spaced(alloc: Global, text: &[u8], cartan: Cartan) -> Result<Space, Stop>
-    ensures given { Gives result (spec.spaced (words text.now) cartan) }
+/// The space whose factors the words of a text name, in a tensor order.
+pub(crate) fn spaced(
+    alloc: Global,
+    text: &[u8],
+    cartan: Cartan,
+    order: Order,
+) -> Result<Space, Stop>
+    ensures given { Gives result (spec.spaced order (words text.now) cartan) }
     ensures space { IfOk result IsSpace }
 {
     let factors = factored(alloc, text)?;
     match Space::new(cartan, factors.as_slice()) {
-        Ok(space) => Ok(space),
+        Ok(space) => Ok(space.ordered(order)),
         Err(_) => Err(Stop::Why(JobWhy::BadSpace)),
     }
 }

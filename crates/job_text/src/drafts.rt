@@ -6,30 +6,39 @@ ghost use Rattle.tableau_reading.specs.Shapes.{IsShape};
 ghost use Rattle.text_pieces.specs.Pieces.{words};
 ghost use Rattle.job_text.specs.declared.commands.Ask.TheVariants as ask;
 ghost use Rattle.job_text.specs.Jobs.{IsCommand, IsAsk, IsJob};
-ghost use Rattle.job_text.specs.Drafts.{Drafted, fresh, last_script, with_start, with_cells, with_session, with_command, with_ask, job_of};
+ghost use Rattle.job_text.specs.Drafts.{Drafted, order_of, fresh, last_script, with_start, with_cells, with_session, with_command, with_ask, job_of};
 ghost use Rattle.job_text.specs.Outcomes.{Gives};
 ghost use Rattle.job_text.specs.Judge as spec;
 
 use crate::commands::{Ask, Asks, Command, Indices, Script, Scripts};
 use crate::faults::Stop;
 use crate::jobs::Job;
-use crate::keys::Part;
+use crate::keys::{Part, Version};
 use crate::{arguments, roots};
 use crystal_cartan::Cartan;
 use std::alloc::{AllocError, Global};
 use std::marker::Model;
-use tensor_words::{Codes, Space};
+use tensor_words::{Codes, Order, Space};
 
-/// Behind the line `type`: the Cartan type.
+/// Behind the line `type`: the Cartan type, and the tensor order where a line gave it.
 #[derive(Debug, Drop)]
 pub(crate) struct TypedHead {
     pub cartan: Cartan,
+    pub order: Option<Order>,
+}
+
+impl TypedHead {
+    /// The tensor order: the standard one where no line gave it.
+    pub fn order(&self) -> Order
+        ensures { result ≡ order_of self.now }
+    {
+        self.order.unwrap_or(Order::Standard)
+    }
 }
 
 /// From the line `shape` or `space` on.
 #[derive(Debug, Drop)]
 pub(crate) struct Draft {
-    part: Part,
     space: Space,
     top: Option<u64>,
     starts: Vec<u64>,
@@ -50,17 +59,32 @@ impl Model for Draft {
     ghost invariant = { IsKept };
 }
 
+/// What a job is known to be.
+#[derive(Debug, Drop)]
+pub(crate) enum Known {
+    /// Before the line `type`.
+    Nothing,
+    /// Behind the line `type`.
+    Typed(TypedHead),
+    /// Behind the line `shape` or `space`.
+    Begun(Draft),
+}
+
+/// Behind the header: the version, the part that the next line stands in, and what is known.
+#[derive(Debug, Drop)]
+pub(crate) struct Progress {
+    pub version: Version,
+    pub part: Part,
+    pub known: Known,
+}
+
 /// How far the reading has come.
 #[derive(Debug, Drop)]
 pub(crate) enum State {
     /// Before the header.
     Unread,
     /// Behind the header.
-    Open,
-    /// Behind the line `type`.
-    Typed(TypedHead),
-    /// Behind the line `shape` or `space`.
-    Begun(Draft),
+    Headed(Progress),
 }
 
 impl Draft {
@@ -71,7 +95,6 @@ impl Draft {
     {
         let _space = space.cartan();
         Draft {
-            part: Part::Head,
             space,
             top,
             starts: Vec::new(alloc),
@@ -81,16 +104,17 @@ impl Draft {
         }
     }
 
-    pub fn part(&self) -> Part
-        ensures { result ≡ self.now.part }
-    {
-        self.part
-    }
-
     pub fn cartan(&self) -> Cartan
         ensures { result ≡ self.now.space.cartan }
     {
         self.space.cartan()
+    }
+
+    /// The tensor order of the job.
+    pub fn order(&self) -> Order
+        ensures { result ≡ self.now.space.order }
+    {
+        self.space.order()
     }
 
     /// Whether the number of cells was given.
@@ -184,7 +208,6 @@ impl Draft {
         ensures { IfOk result (λ d. d ≡ with_session self) }
     {
         let mut draft = self;
-        draft.part = Part::Session;
         draft.scripts.push(Script::of(Vec::new(alloc)))?;
         Ok(draft)
     }
@@ -210,7 +233,6 @@ impl Draft {
         ensures { IfOk result (λ d. d ≡ with_ask self ask) }
     {
         let mut draft = self;
-        draft.part = Part::Asks;
         draft.asks.push(ask)?;
         Ok(draft)
     }
@@ -229,7 +251,6 @@ impl Draft {
         ensures job { IfOk result IsJob }
     {
         let Draft {
-            part: _,
             space,
             top,
             starts,

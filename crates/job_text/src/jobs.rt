@@ -2,11 +2,11 @@
 ghost use Rattle.std.specs.Prelude.{◌≡◌, ◌≤◌, IfOk, length};
 ghost use Rattle.text_pieces.specs.Pieces.{words};
 ghost use Rattle.job_text.specs.Jobs.{IsJob};
-ghost use Rattle.job_text.specs.Outcomes.{Gives, Tells};
+ghost use Rattle.job_text.specs.Outcomes.{Gives, GivesAtLine};
 ghost use Rattle.job_text.specs.Judge as spec;
 
 use crate::commands::{Asks, Scripts};
-use crate::drafts::State;
+use crate::drafts::{Known, State};
 use crate::faults::{JobFault, JobWhy, Stop};
 use crate::lines::line_made;
 use std::alloc::Global;
@@ -31,7 +31,7 @@ pub struct Job {
 #[tactic(auto, unfolding(crate::specs::Judge::judge))]
 pub fn read_job(alloc: Global, bytes: &[u8]) -> Result<Job, JobFault>
     requires { length bytes.now ≤ 1048576 }
-    ensures told { Tells result (spec.judge bytes.now) }
+    ensures told { GivesAtLine result (spec.judge bytes.now) }
     ensures job { IfOk result IsJob }
 {
     let mut state = State::Unread;
@@ -53,7 +53,7 @@ pub fn read_job(alloc: Global, bytes: &[u8]) -> Result<Job, JobFault>
 
 /// What a line with this number makes of a state.
 fn line_at(alloc: Global, line: u32, text: &[u8], state: State) -> Result<State, JobFault>
-    ensures { Tells result (spec.at_line line (spec.line_made text.now state)) }
+    ensures { GivesAtLine result (spec.at_line line (spec.line_made text.now state)) }
 {
     match line_made(alloc, text, state) {
         Ok(after) => Ok(after),
@@ -63,7 +63,7 @@ fn line_at(alloc: Global, line: u32, text: &[u8], state: State) -> Result<State,
 
 /// What stands behind the last end of a line, with this number, makes of a state.
 fn tail_at(alloc: Global, line: u32, text: &[u8], state: State) -> Result<Job, JobFault>
-    ensures told { Tells result (spec.at_line line (spec.tail_judged text.now state)) }
+    ensures told { GivesAtLine result (spec.at_line line (spec.tail_judged text.now state)) }
     ensures job { IfOk result IsJob }
 {
     if !text.is_empty() {
@@ -86,12 +86,22 @@ fn ended(alloc: Global, state: State) -> Result<Job, Stop>
 {
     match state {
         State::Unread => Err(Stop::Why(JobWhy::BadHeader)),
-        State::Open | State::Typed(_) => Err(Stop::Why(JobWhy::Missing)),
-        State::Begun(draft) => {
+        State::Headed(progress) => finished(alloc, progress.known),
+    }
+}
+
+/// What is known behind the last line gives.
+fn finished(alloc: Global, known: Known) -> Result<Job, Stop>
+    ensures given { Gives result (spec.finished known) }
+    ensures job { IfOk result IsJob }
+{
+    match known {
+        Known::Begun(draft) => {
             if !draft.has_start() {
                 return Err(Stop::Why(JobWhy::Missing));
             }
             Ok(draft.job(alloc)?)
         }
+        _ => Err(Stop::Why(JobWhy::Missing)),
     }
 }

@@ -14,10 +14,10 @@ ghost use Rattle.job_text.specs.Judge as spec;
 
 use crate::arguments;
 use crate::commands::{Ask, Command};
-use crate::drafts::{Draft, State, TypedHead};
+use crate::drafts::{Draft, Known, Progress, State, TypedHead};
 use crate::faults::{JobWhy, Stop};
-use crate::keys::{Key, Part, Rule, is_between, is_count, rule_of};
-use crystal_cartan::{Arrow, Cartan};
+use crate::keys::{Key, Part, Rule, Version, is_between, is_count, rule_of};
+use crystal_cartan::Arrow;
 use std::alloc::Global;
 use tableau_reading::Shape;
 use text_pieces::{are_printed, behind, count_words, first, first_word};
@@ -46,36 +46,61 @@ pub(crate) fn line_made(alloc: Global, line: &[u8], state: State) -> Result<Stat
     }
     match state {
         State::Unread => header_read(line),
-        state => worded(alloc, line, state),
+        State::Headed(progress) => {
+            let after = worded(alloc, line, progress)?;
+            Ok(State::Headed(after))
+        }
     }
 }
 
-/// The first line is the header, and no other.
+/// The first line is a header, and no other.
 fn header_read(line: &[u8]) -> Result<State, Stop>
-    ensures { Gives result (spec.begun line.now Unread) }
+    ensures { Gives result (spec.stepped line.now Unread) }
+{
+    match version_of(line) {
+        Some(version) => Ok(State::Headed(begun(version))),
+        None => Err(Stop::Why(JobWhy::BadHeader)),
+    }
+}
+
+/// The version that a header tells.
+fn version_of(line: &[u8]) -> Option<Version>
+    ensures { result ≡ spec.version_of line.now }
 {
     if line == b"crystal-job 1".as_slice() {
-        Ok(State::Open)
+        Some(Version::One)
+    } else if line == b"crystal-job 2".as_slice() {
+        Some(Version::Two)
     } else {
-        Err(Stop::Why(JobWhy::BadHeader))
+        None
     }
 }
 
-/// What a line behind the header makes of a state.
+fn begun(version: Version) -> Progress
+    ensures { result ≡ spec.begun version }
+{
+    Progress {
+        version,
+        part: Part::Opening,
+        known: Known::Nothing,
+    }
+}
+
+/// What a line behind the header makes of the progress.
 #[tactic(auto, unfolding(crate::specs::Judge::worded))]
-fn worded(alloc: Global, line: &[u8], state: State) -> Result<State, Stop>
-    ensures { Gives result (spec.worded (words line.now) state) }
+fn worded(alloc: Global, line: &[u8], progress: Progress) -> Result<Progress, Stop>
+    ensures { Gives result (spec.worded (words line.now) progress) }
 {
     let Some((word, rest)) = first_word(line) else {
-        return Ok(state);
+        return Ok(progress);
     };
     if is_comment(word) {
-        return Ok(state);
+        return Ok(progress);
     }
-    let Some(rule) = rule_of(word) else {
+    let Some(rule) = rule_of(progress.version, word) else {
         return Err(Stop::Why(JobWhy::UnknownLine));
     };
-    ruled(alloc, rest, rule, state)
+    ruled(alloc, rest, rule, progress)
 }
 
 /// Whether a line that begins with this word is a comment.
@@ -85,22 +110,27 @@ fn is_comment(word: &[u8]) -> bool
     matches!(word, [b'#', ..])
 }
 
-/// What the line of a key word makes of a state, its faults in their order.
+/// What the line of a key word makes of the progress, its faults in their order.
 #[tactic(auto, unfolding(crate::specs::Judge::ruled))]
-fn ruled(alloc: Global, text: &[u8], rule: Rule, state: State) -> Result<State, Stop>
+fn ruled(alloc: Global, text: &[u8], rule: Rule, progress: Progress) -> Result<Progress, Stop>
     requires { HasIndices rule }
-    ensures { Gives result (spec.ruled rule (words text.now) state) }
+    ensures { Gives result (spec.ruled rule (words text.now) progress) }
 {
     if !(is_count(rule.count, count_words(text)) && is_formed(rule.key, text)) {
         return Err(Stop::Why(JobWhy::UnknownLine));
     }
-    if !is_placed(rule, &state) {
+    if !is_placed(rule, &progress) {
         return Err(Stop::Why(JobWhy::Misplaced));
     }
-    if !has_room(rule.key, text, &state) {
+    if !has_room(rule.key, text, &progress.known) {
         return Err(Stop::Why(JobWhy::TooMany));
     }
-    made(alloc, rule.key, text, state)
+    let known = made(alloc, rule.key, text, progress.known)?;
+    Ok(Progress {
+        version: progress.version,
+        part: rule.next,
+        known,
+    })
 }
 
 /// Behind `look` stands f or e.
@@ -125,32 +155,22 @@ fn is_down(word: &[u8]) -> bool
     word == b"f".as_slice()
 }
 
-/// The part of a state.
-fn part_of(state: &State) -> Part
-    ensures { result ≡ spec.part_of state.now }
+/// Whether the line is a second line `cells` or `order`.
+fn is_second(key: Key, known: &Known) -> bool
+    ensures { result ≡ spec.is_second key known.now }
 {
-    match state {
-        State::Unread | State::Open => Part::Opening,
-        State::Typed(_) => Part::Typed,
-        State::Begun(draft) => draft.part(),
-    }
-}
-
-/// Whether the line is a second line `cells`.
-fn is_second_cells(key: Key, state: &State) -> bool
-    ensures { result ≡ spec.is_second_cells key state.now }
-{
-    match state {
-        State::Begun(draft) => key == Key::Cells && draft.has_cells(),
-        _ => false,
+    match known {
+        Known::Nothing => false,
+        Known::Typed(head) => key == Key::Order && head.order.is_some(),
+        Known::Begun(draft) => key == Key::Cells && draft.has_cells(),
     }
 }
 
 /// Whether the line may stand here.
-fn is_placed(rule: Rule, state: &State) -> bool
-    ensures { result ≡ spec.is_placed rule state.now }
+fn is_placed(rule: Rule, progress: &Progress) -> bool
+    ensures { result ≡ spec.is_placed rule progress.now }
 {
-    is_between(rule.first, rule.last, part_of(state)) && !is_second_cells(rule.key, state)
+    is_between(rule.first, rule.last, progress.part) && !is_second(rule.key, &progress.known)
 }
 
 /// Whether a draft has room for the line.
@@ -167,54 +187,60 @@ fn draft_has_room(key: Key, text: &[u8], draft: &Draft) -> bool
     }
 }
 
-/// Whether a state has room for the line.
+/// Whether what is known has room for the line.
 #[tactic(auto, unfolding(crate::specs::Judge::has_room))]
-fn has_room(key: Key, text: &[u8], state: &State) -> bool
-    ensures { result ≡ spec.has_room key (words text.now) state.now }
+fn has_room(key: Key, text: &[u8], known: &Known) -> bool
+    ensures { result ≡ spec.has_room key (words text.now) known.now }
 {
-    match state {
-        State::Begun(draft) => draft_has_room(key, text, draft),
+    match known {
+        Known::Begun(draft) => draft_has_room(key, text, draft),
         _ => true,
     }
 }
 
-/// What the line of a key word makes of a state.
+/// What the line of a key word makes of what is known.
 #[tactic(auto, unfolding(crate::specs::Judge::made, crate::specs::Judge::has_room))]
-fn made(alloc: Global, key: Key, text: &[u8], state: State) -> Result<State, Stop>
-    requires room { spec.has_room key (words text.now) state ≡ true }
+fn made(alloc: Global, key: Key, text: &[u8], known: Known) -> Result<Known, Stop>
+    requires room { spec.has_room key (words text.now) known ≡ true }
     requires indices { key ≡ Demazure → 1 ≤ length (words text.now) }
-    ensures { Gives result (spec.made key (words text.now) state) }
+    ensures { Gives result (spec.made key (words text.now) known) }
 {
-    match state {
-        State::Unread => Err(Stop::Why(JobWhy::Misplaced)),
-        State::Open => {
+    match known {
+        Known::Nothing => {
             let cartan = arguments::typed(text)?;
-            Ok(State::Typed(TypedHead { cartan }))
+            Ok(Known::Typed(TypedHead {
+                cartan,
+                order: None,
+            }))
         }
-        State::Typed(head) => {
-            let draft = placed(alloc, key, text, head.cartan)?;
-            Ok(State::Begun(draft))
-        }
-        State::Begun(draft) => {
+        Known::Typed(head) => placed(alloc, key, text, head),
+        Known::Begun(draft) => {
             let draft = drafted(alloc, key, text, draft)?;
-            Ok(State::Begun(draft))
+            Ok(Known::Begun(draft))
         }
     }
 }
 
-/// What the line `shape` or `space` makes of a type.
+/// What the line `order`, `shape` or `space` makes of a head.
 #[tactic(auto, unfolding(crate::specs::Judge::placed))]
-fn placed(alloc: Global, key: Key, text: &[u8], cartan: Cartan) -> Result<Draft, Stop>
-    ensures { Gives result (spec.placed key (words text.now) cartan) }
+fn placed(alloc: Global, key: Key, text: &[u8], head: TypedHead) -> Result<Known, Stop>
+    ensures { Gives result (spec.placed key (words text.now) head) }
 {
     match key {
+        Key::Order => {
+            let order = arguments::order_named(first(text))?;
+            Ok(Known::Typed(TypedHead {
+                cartan: head.cartan,
+                order: Some(order),
+            }))
+        }
         Key::Shape => {
-            let shape = arguments::shaped(alloc, text, cartan)?;
-            Ok(shape_taken(alloc, shape))
+            let shape = arguments::shaped(alloc, text, head.cartan, head.order())?;
+            Ok(Known::Begun(shape_taken(alloc, shape)))
         }
         Key::Space => {
-            let space = arguments::spaced(alloc, text, cartan)?;
-            Ok(Draft::fresh(alloc, space, None))
+            let space = arguments::spaced(alloc, text, head.cartan, head.order())?;
+            Ok(Known::Begun(Draft::fresh(alloc, space, None)))
         }
         _ => Err(Stop::Why(JobWhy::Misplaced)),
     }
@@ -237,7 +263,7 @@ fn drafted(alloc: Global, key: Key, text: &[u8], draft: Draft) -> Result<Draft, 
     ensures { Gives result (spec.drafted key (words text.now) draft) }
 {
     match key {
-        Key::Typing | Key::Shape | Key::Space => Err(Stop::Why(JobWhy::Misplaced)),
+        Key::Typing | Key::Order | Key::Shape | Key::Space => Err(Stop::Why(JobWhy::Misplaced)),
         Key::Start => {
             let code = draft.coded(text)?;
             Ok(draft.with_start(code)?)
@@ -274,7 +300,7 @@ fn drafted(alloc: Global, key: Key, text: &[u8], draft: Draft) -> Result<Draft, 
             Ok(draft.with_ask(Ask::Demazure(indices))?)
         }
         Key::Tops => {
-            let shape = arguments::shaped(alloc, text, draft.cartan())?;
+            let shape = arguments::shaped(alloc, text, draft.cartan(), draft.order())?;
             Ok(draft.with_ask(Ask::Tops(shape))?)
         }
         Key::Reflect => {

@@ -1,5 +1,5 @@
 -- The leftmost sign eps that is left over, found from left to right.
-use Rattle.std.proofs.Common.{◌≡◌, ◌∙◌, sym, ap, refl, ℕ, zero, suc, ◌+◌, ◌-◌, ◌≤◌, ◌<◌, nat_le, nat_lt, if◌then◌else◌, true, false, List, [], ◌∷◌, length, drop, get_or, Option, Some, None, MatchOption, inl, inr, arith}
+use Rattle.std.proofs.Common.{◌≡◌, ◌∙◌, sym, ap, refl, ℕ, zero, suc, ◌+◌, ◌-◌, ◌≤◌, ◌<◌, nat_le, nat_lt, if◌then◌else◌, true, false, List, [], ◌∷◌, length, drop, get_or, Option, Some, None, inl, inr, arith}
 use Rattle.std.specs.Option.{option_map}
 use Rattle.std.proofs.lemmas.Bool.{cases_lt}
 use Rattle.std.proofs.lemmas.Bool.Decides.{nat_tests}
@@ -7,11 +7,12 @@ use Rattle.std.proofs.lemmas.List.{drop_more}
 use Rattle.crystal_cartan.specs.Crystals.{Action}
 use Rattle.tensor_words.specs.declared.spaces.Factor.{Factor}
 use Rattle.tensor_words.specs.declared.spaces.Factor.TheVariants.{Vector}
-use Rattle.tensor_words.specs.Spaces.{SpaceType, base_action}
-use Rattle.tensor_words.specs.TensorRule.{word_phi, action}
-use Rattle.signature_rule.specs.Passes.{AreSigns, IsRaisePlace, bottom}
+use Rattle.tensor_words.specs.Spaces.{SpaceType}
+use Rattle.tensor_words.specs.TensorRule.{word_phi}
+use Rattle.signature_rule.specs.Passes.{AreSigns, OpensAt, bottom}
 use Rattle.signature_rule.proofs.Signs.{first_eps, acts_from}
 use Rattle.signature_rule.proofs.PassSteps.{factor_acts, none_left, raise_placed}
+use Rattle.tensor_words.proofs.Turned.{near}
 use Rattle.tensor_words.proofs.SpaceWords.{length_word}
 
 -- the place of the first sign eps that is open behind the factors: k is the place of the first of these factors, m signs eps are open
@@ -91,11 +92,11 @@ pub bottom_next : (s : SpaceType) (i : ℕ) (w : List ℕ) (k m e f : ℕ) (foun
 bottom_next s i w k m e f found signs p = record {
   same =
       rw (signs.eps, signs.phi)
-      (sym (bottom_step (base_action s.cartan i) s.factors w k m found signs.below (omega (arith, length_word s w signs.word, signs.below))) ∙ p.same);
+      (sym (bottom_step (near s i) s.factors w k m found signs.below (omega (arith, length_word s w signs.word, signs.below))) ∙ p.same);
 }
 
 pub bottom_end : (s : SpaceType) (i : ℕ) (w : List ℕ) (k m : ℕ) (found : Option ℕ) → length s.factors ≤ k → IsBottomPass s i w k m found
-    → MatchOption found ((action s i).raise w ≡ None) (IsRaisePlace s i w)
+    → OpensAt s.order s i w found
 bottom_end s i w k m found all p =
     let out : found ≡ bottom_eps (factor_acts s i 0) 0 0 None w = rw (none_left s i k all) at p.same in
     let test : nat_lt (word_phi (factor_acts s i 0) w) 0 ≡ false = grind (arith, nat_tests) in

@@ -9,15 +9,16 @@ use Rattle.crystal_cartan.specs.Types.{HasIndex}
 use Rattle.tensor_words.specs.Spaces.{SpaceType, IsSpace}
 use Rattle.tensor_words.specs.Codes.{IsWord}
 use Rattle.tensor_words.specs.TensorRule.{action}
+use Rattle.tensor_words.specs.Operators.{IsTop}
 use Rattle.tensor_words.proofs.Keeps.{raise_keeps}
 use Rattle.tensor_words.proofs.KeptWords.{digit_sum, digit_sum_few, factors_of_space, raise_lowers_sum}
 use Rattle.tensor_words.proofs.WordWeights.{seminormal_word}
-use Rattle.signature_rule.specs.Lifts.{IsTop, IsLeastRaise, LiftsBy, IsLift}
+use Rattle.signature_rule.specs.Lifts.{IsLeastRaise, LiftsBy, IsLift}
 use Rattle.signature_rule.specs.Lifts.LiftsBy.{at_top, raised}
 
 pub raise_falls : (s : SpaceType) (w v : List ℕ) → IsSpace s → IsWord s w → IsLeastRaise s w v → IsWord s v × (digit_sum v < digit_sum w)
 raise_falls s w v space word r =
-    (raise_keeps s r.at w v space r.index word r.raised, raise_lowers_sum s r.at v w (factors_of_space s space) r.index word r.raised)
+    (raise_keeps s r.at w v (factors_of_space s space) r.index word r.raised, raise_lowers_sum s r.at v w (factors_of_space s space) r.index word r.raised)
 
 -- the sums of the digits do not rise on the way
 lifts_below : {s : SpaceType} {w top : List ℕ} {way : List (List ℕ)} → LiftsBy s w top way → IsSpace s → IsWord s w → All (λ u. digit_sum u ≤ digit_sum w) way

@@ -1,22 +1,28 @@
 -- What the loops of the passes keep.
-use Rattle.std.proofs.Common.{◌≡◌, ◌∙◌, sym, ap, refl, ℕ, ◌+◌, ◌-◌, ◌*◌, ◌≤◌, ◌<◌, nat_lt, if◌then◌else◌, Bool, true, false, List, [], length, drop, Option, Some, None, MatchOption, arith}
+use Rattle.std.proofs.Common.{◌≡◌, ◌∙◌, sym, ap, refl, ℕ, ◌+◌, ◌-◌, ◌*◌, ◌≤◌, ◌<◌, nat_lt, if◌then◌else◌, Bool, true, false, List, [], length, drop, Option, Some, None, ◌↔◌, arith}
 use Rattle.std.specs.Option.{option_map}
 use Rattle.std.proofs.lemmas.Bool.Decides.{nat_tests}
 use Rattle.std.proofs.lemmas.List.{drop_all}
 use Rattle.crystal_cartan.specs.Types.{HasIndex}
 use Rattle.crystal_cartan.specs.Crystals.{Action}
-use Rattle.tensor_words.specs.Spaces.{SpaceType, IsSpace, base_action}
+use Rattle.tensor_words.specs.declared.spaces.Order.{Order}
+use Rattle.tensor_words.specs.declared.spaces.Order.TheVariants.{Standard, Kashiwara}
+use Rattle.tensor_words.specs.Spaces.{SpaceType, IsSpace}
 use Rattle.tensor_words.specs.Codes.{IsWord}
-use Rattle.tensor_words.specs.TensorRule.{word_phi, word_lower, word_raise, action}
-use Rattle.signature_rule.specs.Passes.{AreSigns, IsLowerPlace, IsRaisePlace}
+use Rattle.tensor_words.specs.TensorRule.{word_phi, word_raise, word_action, action, as_standard}
+use Rattle.signature_rule.specs.Passes.{AreSigns, ClosesAt, OpensAt}
 use Rattle.tensor_words.proofs.KeptWords.{factors_of_space}
 use Rattle.signature_rule.proofs.Signs.{open_eps, eps_by_pass, last_phi, last_phi_found, lower_place, lower_at, first_eps, RaisesAt, raise_at, acts_from, first_eps_from, open_eps_step, last_phi_step, phi_step, first_eps_step}
 use Rattle.tensor_words.proofs.SpaceWords.{length_word}
+use Rattle.tensor_words.proofs.Turned.{IsSame, near, near_rule}
 use Rattle.tensor_words.proofs.WordWeights.{seminormal_word}
 
--- how one index acts on the factors, from the place k on
+-- how one index acts on the factors from the place k on, and on the word, as the standard order sees it
 abbrev pub factor_acts : SpaceType → ℕ → ℕ → List (Action ℕ)
-factor_acts s i k = acts_from (base_action s.cartan i) s.factors k
+factor_acts s i k = acts_from (near s i) s.factors k
+
+abbrev pub whole : SpaceType → ℕ → Action (List ℕ)
+whole s i = as_standard s.order (action s i)
 
 pub none_left : (s : SpaceType) (i : ℕ) (k : ℕ) → length s.factors ≤ k → factor_acts s i k ≡ []
 none_left s i k all = rw (drop_all k s.factors all) refl
@@ -24,19 +30,18 @@ none_left s i k all = rw (drop_all k s.factors all) refl
 -- m signs eps are open before the place k
 pub record IsEpsPass (s : SpaceType) (i : ℕ) (w : List ℕ) (k m : ℕ) : Type 0 where
   pub few : m ≤ 2 * k
-  pub same : open_eps (factor_acts s i k) m (drop k w) ≡ (action s i).eps w
+  pub same : open_eps (factor_acts s i k) m (drop k w) ≡ (whole s i).eps w
 
 pub eps_start : (s : SpaceType) (i : ℕ) (w : List ℕ) → IsEpsPass s i w 0 0
-unfolding action
-eps_start s i w = record { few = omega arith; same = omega (arith, eps_by_pass (factor_acts s i 0) 0 w) }
+eps_start s i w = record { few = omega arith; same = omega (arith, eps_by_pass (factor_acts s i 0) 0 w, (near_rule s i w).eps) }
 
 pub eps_more : (s : SpaceType) (i : ℕ) (w : List ℕ) (k m e f : ℕ) → AreSigns s i w k e f → e ≤ 2 → IsEpsPass s i w k m → IsEpsPass s i w (k + 1) (m - f + e)
 eps_more s i w k m e f signs small p = record {
   few = omega (arith, p.few);
-  same = rw (signs.eps, signs.phi) (sym (open_eps_step (base_action s.cartan i) s.factors w k signs.below (omega (arith, length_word s w signs.word, signs.below)) m) ∙ p.same);
+  same = rw (signs.eps, signs.phi) (sym (open_eps_step (near s i) s.factors w k signs.below (omega (arith, length_word s w signs.word, signs.below)) m) ∙ p.same);
 }
 
-pub eps_end : (s : SpaceType) (i : ℕ) (w : List ℕ) (k m : ℕ) → length s.factors ≤ k → IsEpsPass s i w k m → m ≡ (action s i).eps w
+pub eps_end : (s : SpaceType) (i : ℕ) (w : List ℕ) (k m : ℕ) → length s.factors ≤ k → IsEpsPass s i w k m → m ≡ (whole s i).eps w
 eps_end s i w k m all p = rw (none_left s i k all) at p.same
 
 -- m signs phi are left over from the place k on
@@ -51,13 +56,20 @@ pub phi_more : (s : SpaceType) (i : ℕ) (w : List ℕ) (k m e f : ℕ) → AreS
 phi_more s i w k m e f signs small p = record {
   few = omega (arith, p.few);
   same =
-      let step = phi_step (base_action s.cartan i) s.factors w k signs.below (omega (arith, length_word s w signs.word, signs.below)) in
+      let step = phi_step (near s i) s.factors w k signs.below (omega (arith, length_word s w signs.word, signs.below)) in
       omega (arith, step, p.same, signs.eps, signs.phi);
 }
 
-pub phi_end : (s : SpaceType) (i : ℕ) (w : List ℕ) (m : ℕ) → IsPhiPass s i w 0 m → m ≡ (action s i).phi w
-unfolding action
-phi_end s i w m p = p.same
+pub phi_end : (s : SpaceType) (i : ℕ) (w : List ℕ) (m : ℕ) → IsPhiPass s i w 0 m → m ≡ (whole s i).phi w
+phi_end s i w m p = p.same ∙ sym (near_rule s i w).phi
+
+-- the operator of the closing signs gives zero just where none is left over
+whole_ends : (s : SpaceType) (i : ℕ) (w : List ℕ) → IsSpace s → HasIndex s.cartan i → IsWord s w → ((whole s i).lower w ≡ None) ↔ ((whole s i).phi w ≡ 0)
+whole_ends s i w space index word = at s.order
+  where
+    at : (o : Order) → ((as_standard o (action s i)).lower w ≡ None) ↔ ((as_standard o (action s i)).phi w ≡ 0)
+    at Standard = (seminormal_word s i w (factors_of_space s space) index word).lower_ends
+    at Kashiwara = (seminormal_word s i w (factors_of_space s space) index word).raise_ends
 
 -- m signs eps are open before the place k, and `found` is the place of the last sign phi that is left over there
 pub record IsLowerPass (s : SpaceType) (i : ℕ) (w : List ℕ) (k m : ℕ) (found : Option ℕ) : Type 0 where
@@ -71,7 +83,7 @@ module _ (s : SpaceType) (i : ℕ) (w : List ℕ) (k m e f : ℕ) (found : Optio
   lower_step : (b : Bool) → nat_lt m f ≡ b → IsLowerPass s i w (k + 1) (m - f + e) (if b then Some k else found)
   lower_step b test = record {
     few = omega (arith, p.few);
-    same = rw (sym test, signs.eps, signs.phi) (sym (last_phi_step (base_action s.cartan i) s.factors w k signs.below (omega (arith, length_word s w signs.word, signs.below)) m found) ∙ p.same);
+    same = rw (sym test, signs.eps, signs.phi) (sym (last_phi_step (near s i) s.factors w k signs.below (omega (arith, length_word s w signs.word, signs.below)) m found) ∙ p.same);
   }
 
   pub lower_next : IsLowerPass s i w (k + 1) (m - f + e) (if nat_lt m f then Some k else found)
@@ -84,27 +96,27 @@ module _ (s : SpaceType) (i : ℕ) (w : List ℕ) (k m e f : ℕ) (found : Optio
   lower_not_here less = lower_step false (grind (arith, nat_tests))
 
 pub lower_end : (s : SpaceType) (i : ℕ) (w : List ℕ) (k m : ℕ) (found : Option ℕ) → IsSpace s → HasIndex s.cartan i → IsWord s w → length s.factors ≤ k → IsLowerPass s i w k m found
-    → MatchOption found ((action s i).lower w ≡ None) (IsLowerPlace s i w)
-unfolding action
+    → ClosesAt s.order s i w found
 lower_end s i w k m found space index word all p =
+    let rule : IsSame (whole s i) (word_action (factor_acts s i 0)) w = near_rule s i w in
     let out : found ≡ last_phi (factor_acts s i 0) 0 0 None w = rw (none_left s i k all) at p.same in
-    let whole : found ≡ (if nat_lt 0 (word_phi (factor_acts s i 0) w) then Some (0 + lower_place (factor_acts s i 0) w) else None) =
+    let found_is : found ≡ (if nat_lt 0 (word_phi (factor_acts s i 0) w) then Some (0 + lower_place (factor_acts s i 0) w) else None) =
     out ∙ last_phi_found (factor_acts s i 0) 0 0 None w in
-    rw whole (elim (nat_lt 0 (word_phi (factor_acts s i 0) w)) as (λ b. nat_lt 0 (word_phi (factor_acts s i 0) w) ≡ b
-    → MatchOption (if b then Some (0 + lower_place (factor_acts s i 0) w) else None) (word_lower (factor_acts s i 0) w ≡ None) (IsLowerPlace s i w)) [
+    rw found_is (elim (nat_lt 0 (word_phi (factor_acts s i 0) w)) as (λ b. nat_lt 0 (word_phi (factor_acts s i 0) w) ≡ b
+    → ClosesAt s.order s i w (if b then Some (0 + lower_place (factor_acts s i 0) w) else None)) [
       | true ↦ λ is.
           let place : 0 + lower_place (factor_acts s i 0) w ≡ lower_place (factor_acts s i 0) w = omega arith in
-          let at = lower_at (base_action s.cartan i) s.factors w (grind (arith, nat_tests)) in
-          rw place (record { below = at.below; acts = at.value })
+          let at = lower_at (near s i) s.factors w (grind (arith, nat_tests)) in
+          rw place (record { below = at.below; acts = rule.lower ∙ at.value })
       | false ↦ λ is.
-          let none : (action s i).phi w ≡ 0 = grind (arith, nat_tests) in
-          (seminormal_word s i w (factors_of_space s space) index word).lower_ends.1 none
+          let none : (whole s i).phi w ≡ 0 = rule.phi ∙ grind (arith, nat_tests) in
+          (whole_ends s i w space index word).1 none
     ] refl)
 
 -- m signs phi are left over from the place k on, and `found` is the place of the first sign eps that is left over there
 pub record IsRaisePass (s : SpaceType) (i : ℕ) (w : List ℕ) (k m : ℕ) (found : Option ℕ) : Type 0 where
   pub phi : IsPhiPass s i w k m
-  pub same : found ≡ first_eps_from (base_action s.cartan i) s.factors w k
+  pub same : found ≡ first_eps_from (near s i) s.factors w k
 
 pub raise_start : (s : SpaceType) (i : ℕ) (w : List ℕ) (k : ℕ) → k ≡ length s.factors → IsRaisePass s i w k 0 None
 raise_start s i w k all = record { phi = phi_start s i w k all; same = rw (none_left s i k (omega arith)) refl }
@@ -114,7 +126,7 @@ module _ (s : SpaceType) (i : ℕ) (w : List ℕ) (k m e f : ℕ) (found : Optio
   raise_step b test = record {
     phi = phi_more s i w k m e f signs small p.phi;
     same =
-        let step = first_eps_step (base_action s.cartan i) s.factors w k signs.below (omega (arith, length_word s w signs.word, signs.below)) in
+        let step = first_eps_step (near s i) s.factors w k signs.below (omega (arith, length_word s w signs.word, signs.below)) in
         rw (sym test, signs.eps, p.phi.same, p.same) (sym step);
   }
 
@@ -124,22 +136,18 @@ module _ (s : SpaceType) (i : ℕ) (w : List ℕ) (k m e f : ℕ) (found : Optio
   pub raise_not_here : e ≤ m → IsRaisePass s i w k (m - e + f) found
   raise_not_here less = raise_step false (grind (arith, nat_tests))
 
-pub raise_placed : (s : SpaceType) (i : ℕ) (w : List ℕ) (found : Option ℕ) → found ≡ first_eps_from (base_action s.cartan i) s.factors w 0
-    → MatchOption found ((action s i).raise w ≡ None) (IsRaisePlace s i w)
-unfolding action
+pub raise_placed : (s : SpaceType) (i : ℕ) (w : List ℕ) (found : Option ℕ) → found ≡ first_eps_from (near s i) s.factors w 0 → OpensAt s.order s i w found
 raise_placed s i w found is =
     rw (is ∙ unshifted (first_eps (factor_acts s i 0) w))
-    (placed (first_eps (factor_acts s i 0) w) (raise_at (base_action s.cartan i) s.factors w))
+    (placed (first_eps (factor_acts s i 0) w) (raise_at (near s i) s.factors w))
   where
     unshifted : (o : Option ℕ) → option_map (λ p. 0 + p) o ≡ o
     unshifted None = refl
     unshifted (Some p) = ap Some (omega arith)
 
-    placed : (o : Option ℕ) → RaisesAt (base_action s.cartan i) s.factors w o (word_raise (factor_acts s i 0) w)
-        → MatchOption o (word_raise (factor_acts s i 0) w ≡ None) (IsRaisePlace s i w)
-    placed None h = h
-    placed (Some p) h = record { below = h.below; acts = h.value }
+    placed : (o : Option ℕ) → RaisesAt (near s i) s.factors w o (word_raise (factor_acts s i 0) w) → OpensAt s.order s i w o
+    placed None h = (near_rule s i w).raise ∙ h
+    placed (Some p) h = record { below = h.below; acts = (near_rule s i w).raise ∙ h.value }
 
-pub raise_end : (s : SpaceType) (i : ℕ) (w : List ℕ) (m : ℕ) (found : Option ℕ) → IsRaisePass s i w 0 m found
-    → MatchOption found ((action s i).raise w ≡ None) (IsRaisePlace s i w)
+pub raise_end : (s : SpaceType) (i : ℕ) (w : List ℕ) (m : ℕ) (found : Option ℕ) → IsRaisePass s i w 0 m found → OpensAt s.order s i w found
 raise_end s i w m found p = raise_placed s i w found p.same

@@ -4,10 +4,7 @@ use Rattle.std.specs.List.{AllPairs}
 use Rattle.crystal_cartan.specs.Types.{HasIndex}
 use Rattle.tensor_words.specs.Spaces.{SpaceType}
 use Rattle.tensor_words.specs.TensorRule.{action}
-
--- no raising operator can be applied to the word
-abbrev pub IsTop : SpaceType → List ℕ → Type 0
-IsTop s w = (i : ℕ) → HasIndex s.cartan i → (action s i).eps w ≡ 0
+use Rattle.tensor_words.specs.Operators.{IsTop}
 
 -- v is w raised by the least index whose eps is not zero
 pub record IsLeastRaise (s : SpaceType) (w v : List ℕ) : Type 0 where

@@ -3,9 +3,16 @@ ghost use Rattle.crystal_cartan.specs.Types.{HasIndex};
 ghost use Rattle.crystal_cartan.specs.Seminormal.{IsSeminormal};
 ghost use Rattle.tensor_words.specs.Spaces.{word_weight};
 ghost use Rattle.tensor_words.specs.Codes.{IsWord};
+ghost use Rattle.tensor_words.specs.Laws.{WordsAreSeminormal};
 ghost use Rattle.tensor_words.specs.TensorRule.{action};
 
 use tensor_words::{Space, Word};
+
+/// The words of any list of factors of a type make a seminormal crystal, in both orders and without the limits of a
+/// space. The call does nothing: its contract is the theorem.
+pub fn words_are_seminormal()
+    ensures { WordsAreSeminormal }
+{}
 
 /// The laws of a seminormal crystal, at every index and word of a space (Bump and Schilling, Crystal Bases, 2017,
 /// sections 2.2 and 2.3). e_i and f_i undo each other; f_i gives zero just where phi_i is 0, and e_i just where

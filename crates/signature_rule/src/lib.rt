@@ -1,19 +1,31 @@
 //! The operators on words by the signature rule: one pass over the factors for each call.
 //!
-//! The rule is that of Bump and Schilling, Crystal Bases (2017), section 2.4, with its tensor product read from left
-//! to right. Each factor writes phi signs phi and then eps signs eps; a sign eps directly left of a sign phi is
-//! cancelled with it, until none stands so. f_i acts at the rightmost sign phi that is left over, e_i at the leftmost
-//! sign eps that is left over.
+//! **Promises.** eps, phi, f_i and e_i of a word are those of the tensor product rule, in the order of the word's
+//! space (`operators`, the module to read first). `lift` raises a word to the top of its component (`raising`). The
+//! words of a space make a seminormal crystal (`laws`).
+//!
+//! For many words, `places` finds where the operators of all indices act on a word, and the lengths of all its strings,
+//! by one pass over a space with tables; an operator is then a difference of codes.
+//!
+//! **The rule** is that of Bump and Schilling, Crystal Bases (2017), section 2.4. Each factor writes closing signs
+//! and then opening signs; an opening sign directly left of a closing sign is cancelled with it, until none stands so
+//! (`brackets`). In the standard order the closing signs are phi and the opening signs eps: f_i acts at the rightmost
+//! phi that is left over, e_i at the leftmost eps. In Kashiwara's order the two kinds of signs change their parts.
+//!
+//! **Stands on** tensor_words, whose plain recursion it is compared with in its tests.
 #![tactic(auto)]
 
+mod brackets;
 mod laws;
-mod neighbours;
 mod operators;
+#[cfg(test)]
+mod place_tests;
+mod places;
 mod raising;
 #[cfg(test)]
 mod tests;
 
-pub use laws::word_laws;
-pub use neighbours::{Neighbours, act_both};
-pub use operators::{act, eps, lower, next_code, phi, raise};
+pub use laws::{word_laws, words_are_seminormal};
+pub use operators::{act, eps, lower, phi, raise};
+pub use places::{ActingPlaces, Strings, lowered_code, places_of, raised_code, strings_of};
 pub use raising::lift;

@@ -2,7 +2,8 @@
 ghost use Rattle.std.specs.Prelude.{◌≡◌, ℕ, ◌≤◌, IfSome, MatchOption};
 ghost use Rattle.tensor_words.specs.Spaces.{IsSpace};
 ghost use Rattle.tensor_words.specs.Codes.{IsWord};
-ghost use Rattle.signature_rule.specs.Lifts.{IsLeastRaise, IsLift, IsTop};
+ghost use Rattle.tensor_words.specs.Operators.{IsTop};
+ghost use Rattle.signature_rule.specs.Lifts.{IsLeastRaise, IsLift};
 
 use crate::operators::raise;
 use tensor_words::{Space, Word};

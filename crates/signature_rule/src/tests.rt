@@ -4,7 +4,7 @@ ghost use Rattle.tensor_words.specs.Codes.{IsWord};
 
 use super::*;
 use crystal_cartan::{Arrow, Cartan, Kind};
-use tensor_words::{Factor, Space, Word};
+use tensor_words::{Factor, Order, Space, Word};
 
 const V: Factor = Factor::Vector;
 
@@ -23,13 +23,9 @@ fn strings(space: &Space, code: u64, i: u8) -> Option<(Option<u64>, Option<u64>,
         down: true,
         index: i,
     };
+    let lowered = act(space, &word, arrow).map(|lower| space.code_of(&lower));
     let raised = raise(space, &word, i).map(|higher| space.code_of(&higher));
-    Some((
-        next_code(space, code, arrow),
-        raised,
-        phi(space, &word, i),
-        eps(space, &word, i),
-    ))
+    Some((lowered, raised, phi(space, &word, i), eps(space, &word, i)))
 }
 
 /// The code of the top over the word with this code, and the number of raises.
@@ -50,15 +46,25 @@ fn worked_words(rt: HostRuntime) {
     assert_eq!(rt; strings(&c2, 33, 1), Some((Some(37), Some(32), 2, 1)));
 }
 
+/// The same words read from right to left.
+#[test]
+fn worked_words_in_the_other_order(rt: HostRuntime) {
+    let a1 = made(Kind::A, 1, &[V, V]).expect(&rt, "A_1 has vectors");
+    let a1 = a1.ordered(Order::Kashiwara);
+    assert_eq!(rt; strings(&a1, 1, 1), Some((None, None, 0, 0)));
+    assert_eq!(rt; strings(&a1, 2, 1), Some((Some(3), Some(0), 1, 1)));
+    assert_eq!(rt; lifted(&a1, 3), Some((0, 2)));
+    let c2 = made(Kind::C, 2, &[V, V, V]).expect(&rt, "C_2 has vectors");
+    let c2 = c2.ordered(Order::Kashiwara);
+    assert_eq!(rt; strings(&c2, 18, 1), Some((Some(22), Some(2), 2, 1)));
+}
+
 /// Whether the pass and the recursion agree on this word.
 fn agree_at(space: &Space, word: &Word, i: u8) -> bool
     requires word { IsWord space.now word.now }
     requires index { HasIndex space.now.cartan i }
 {
-    let both = act_both(space, word, i);
-    both.lowered == space.by_rule_lower(word, i)
-        && both.raised == space.by_rule_raise(word, i)
-        && lower(space, word, i) == space.by_rule_lower(word, i)
+    lower(space, word, i) == space.by_rule_lower(word, i)
         && raise(space, word, i) == space.by_rule_raise(word, i)
         && eps(space, word, i) == space.by_rule_eps(word, i)
         && phi(space, word, i) == space.by_rule_phi(word, i)
@@ -87,6 +93,7 @@ fn pass_beside_recursion(rt: HostRuntime) {
     ] {
         let space = made(kind, rank, &[first, second]).expect(&rt, "the type has these factors");
         assert_eq!(rt; first_difference(&space), None);
+        assert_eq!(rt; first_difference(&space.ordered(Order::Kashiwara)), None);
     }
     let a2 = made(Kind::A, 2, &[V, V, V]).expect(&rt, "A_2 has vectors");
     assert_eq!(rt; first_difference(&a2), None);

@@ -7,7 +7,7 @@ use Rattle.std.proofs.lemmas.List.{get_or_append_left, get_or-append_right, get_
 use Rattle.std.proofs.lemmas.List.FromFn.{length-map-range_with_len, get_or-map-range_with_len}
 use Rattle.std.proofs.lemmas.List.Sums.{sum_by-cons}
 use Rattle.tableau_reading.specs.Shapes.{ShapeType, is_falling, is_empty}
-use Rattle.tableau_reading.specs.Readings.{Box, box, height, width, column_boxes, boxes_before, boxes, place}
+use Rattle.tableau_reading.specs.Readings.{Box, box, height, width, column_boxes, boxes_before, boxes, column_place}
 
 -- ---- heights of columns
 
@@ -108,20 +108,20 @@ box_here rows c j k lt within is =
     let inside : k < length (boxes_before rows (suc c)) = omega (arith, length-before rows c) in
     box_before rows k (suc c) (width rows) (omega arith) inside ∙ rw at (in_last_column rows c j within)
 
-pub place_below : (s : ShapeType) (r c : ℕ) → c < width s.rows → r < height s.rows c → place s r c < length (boxes s.rows)
+pub place_below : (s : ShapeType) (r c : ℕ) → c < width s.rows → r < height s.rows c → column_place s.rows r c < length (boxes s.rows)
 place_below s r c lt within = omega (arith, length-before s.rows c, before_le s.rows (suc c) (width s.rows) (omega arith))
 
 -- the reading has a box at its place
-pub box_at_place : (s : ShapeType) (r c : ℕ) → c < width s.rows → r < height s.rows c → get_or (boxes s.rows) (place s r c) (box 0 0) ≡ box r c
+pub box_at_place : (s : ShapeType) (r c : ℕ) → c < width s.rows → r < height s.rows c → get_or (boxes s.rows) (column_place s.rows r c) (box 0 0) ≡ box r c
 box_at_place s r c lt within =
     let h : ℕ = height s.rows c in
     let back : height s.rows c - 1 - (height s.rows c - 1 - r) ≡ r = omega arith in
-    let found = box_here s.rows c (height s.rows c - 1 - r) (place s r c) lt (omega arith) (omega arith) in
+    let found = box_here s.rows c (height s.rows c - 1 - r) (column_place s.rows r c) lt (omega arith) (omega arith) in
     found ∙ rw back refl
 
 -- what is known of the box at a place
 pub record IsBoxAt (s : ShapeType) (k : ℕ) (b : Box) : Type 0 where
-  pub place : place s b.row b.column ≡ k
+  pub place : column_place s.rows b.row b.column ≡ k
   pub row : b.row < height s.rows b.column
   pub column : b.column < width s.rows
 

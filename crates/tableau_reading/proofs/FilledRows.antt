@@ -14,10 +14,11 @@ use Rattle.vector_crystals.proofs.Digits.{letter_at-letter, letter_at-unbarred, 
 use Rattle.tensor_words.specs.Codes.{IsWord}
 use Rattle.tensor_words.proofs.SpaceWords.{length_word, digit_small}
 use Rattle.tableau_reading.specs.Shapes.{ShapeType, IsShape, box_count, shape_space}
-use Rattle.tableau_reading.specs.Readings.{Box, box, boxes, height, width, place}
+use Rattle.tableau_reading.specs.Readings.{Box, box, boxes_read, place}
 use Rattle.tableau_reading.specs.Fillings.{FillingType, filling, letter_in, rows_from, IsFilling, first_filling, with_letter, filling_word, filling_of, filling_listed, AreLetters}
 use Rattle.tableau_reading.proofs.Rows.{few_boxes}
-use Rattle.tableau_reading.proofs.Boxes.{in_row, in_column, column_there, row_there, place_below, box_at_place, box_at, length-boxes}
+use Rattle.tableau_reading.proofs.Boxes.{row_there}
+use Rattle.tableau_reading.proofs.Orders.{IsPlaced, placed, read_at, length-boxes_read}
 use Rattle.tableau_reading.proofs.VectorSpaces.{vector_size, length-shape_space}
 
 -- ---- rows by their letters
@@ -42,36 +43,11 @@ rows_again s fill = rows_same s fill (letter_in (filling s (rows_from s fill))) 
 
 -- ---- letters that are listed in the order of the reading
 
--- what is known of the place of a box
-pub record IsPlaced (s : ShapeType) (r c : ℕ) : Type 0 where
-  pub below : place s r c < box_count s
-  pub there : get_or (boxes s.rows) (place s r c) (box 0 0) ≡ box r c
-
-pub placed : (s : ShapeType) (r c : ℕ) → IsShape s → c < get_or s.rows r 0 → IsPlaced s r c
-placed s r c h lt =
-    let row : r < height s.rows c = in_column s.rows r c h.falling lt in
-    let column : c < width s.rows = column_there s.rows r c h.falling lt in
-    record {
-      below = omega (arith, place_below s r c column row, length-boxes s.rows h.falling);
-      there = box_at_place s r c column row;
-    }
-
--- what is known of the box at a place
-pub record IsReadAt (s : ShapeType) (k : ℕ) (b : Box) : Type 0 where
-  pub within : b.column < get_or s.rows b.row 0
-  pub place : place s b.row b.column ≡ k
-
-pub read_at : (s : ShapeType) (k : ℕ) → IsShape s → k < box_count s → IsReadAt s k (get_or (boxes s.rows) k (box 0 0))
-read_at s k h lt =
-    let b = get_or (boxes s.rows) k (box 0 0) in
-    let known = box_at s k (omega (arith, length-boxes s.rows h.falling)) in
-    record { within = in_row s.rows _ _ h.falling known.row; place = known.place }
-
 pub listed_letter : (s : ShapeType) (letters : List ℤ) (r c : ℕ) → c < get_or s.rows r 0 → letter_in (filling_listed s letters) r c ≡ get_or letters (place s r c) (pos 0)
 listed_letter s letters r c lt = letter_from s (λ i j. get_or letters (place s i j) (pos 0)) r c lt
 
 pub listed_at : (s : ShapeType) (letters : List ℤ) (k : ℕ) → IsShape s → k < box_count s →
-    get_or letters k (pos 0) ≡ letter_in (filling_listed s letters) (get_or (boxes s.rows) k (box 0 0)).row (get_or (boxes s.rows) k (box 0 0)).column
+    get_or letters k (pos 0) ≡ letter_in (filling_listed s letters) (get_or (boxes_read s) k (box 0 0)).row (get_or (boxes_read s) k (box 0 0)).column
 listed_at s letters k h lt =
     let known = read_at s k h lt in
     sym (listed_letter s letters _ _ known.within ∙ ap (λ i. get_or letters i (pos 0)) known.place)
@@ -134,7 +110,7 @@ listed_put s letters r c x h lt size =
         get_or-set_at letters (place s r c) (place s i j) x (pos 0) same (omega (arith, here.below, few, size))
     each i j within false is =
         let there = (placed s i j h within).there in
-        let apart : place s i j ≡ place s r c → ⊥ = λ same. differs r c i j is (sym there ∙ (ap (λ k. get_or (boxes s.rows) k (box 0 0)) same ∙ here.there)) in
+        let apart : place s i j ≡ place s r c → ⊥ = λ same. differs r c i j is (sym there ∙ (ap (λ k. get_or (boxes_read s) k (box 0 0)) same ∙ here.there)) in
         get_or-set_other letters (place s r c) (place s i j) x (pos 0) apart ∙ sym (listed_letter s letters i j within)
 
 -- ---- the letter 1 in every box
@@ -192,23 +168,23 @@ digit_of_word s w k word lt =
 pub word_again : (s : ShapeType) (w : List ℕ) → IsShape s → IsWord (shape_space s) w → filling_word (filling_of s w) ≡ w
 word_again s w h word =
     let size : length w ≡ box_count s = length_word (shape_space s) w word ∙ length-shape_space s in
-    let total : length (boxes s.rows) ≡ box_count s = length-boxes s.rows h.falling in
+    let total : length (boxes_read s) ≡ box_count s = length-boxes_read s h.falling in
     let fill : Box → ℕ = λ b. letter_digit s.cartan (letter_in (filling_of s w) b.row b.column) in
-    ext_get_or 0 (filling_word (filling_of s w)) w (length-map (boxes s.rows) fill ∙ (total ∙ sym size)) (λ k lt.
-    let within : k < box_count s = omega (arith, length-map (boxes s.rows) fill) in
+    ext_get_or 0 (filling_word (filling_of s w)) w (length-map (boxes_read s) fill ∙ (total ∙ sym size)) (λ k lt.
+    let within : k < box_count s = omega (arith, length-map (boxes_read s) fill) in
     let known = read_at s k h within in
-    get_or-map fill (boxes s.rows) k (box 0 0) 0 (omega arith)
+    get_or-map fill (boxes_read s) k (box 0 0) 0 (omega arith)
     ∙ (ap (letter_digit s.cartan) (letter_from s (λ r c. letter_at s.cartan (get_or w (place s r c) 0)) _ _ known.within ∙ ap (λ i. letter_at s.cartan (get_or w i 0)) known.place)
     ∙ letter_digit-letter_at s.cartan (get_or w k 0) h.cartan (digit_of_word s w k word within)))
 
 pub filling_again : (f : FillingType) → IsFilling f → filling_of f.shape (filling_word f) ≡ f
 filling_again f good =
     let s : ShapeType = f.shape in
-    let total : length (boxes f.shape.rows) ≡ box_count f.shape = length-boxes f.shape.rows good.shape.falling in
+    let total : length (boxes_read f.shape) ≡ box_count f.shape = length-boxes_read f.shape good.shape.falling in
     let fill : Box → ℕ = λ b. letter_digit f.shape.cartan (letter_in f b.row b.column) in
     let rows = rows_same f.shape (λ r c. letter_at f.shape.cartan (get_or (filling_word f) (place f.shape r c) 0)) (letter_in f) (λ r c lt.
     let here = placed f.shape r c good.shape lt in
     let digit : get_or (filling_word f) (place f.shape r c) 0 ≡ letter_digit f.shape.cartan (letter_in f r c) =
-    get_or-map fill (boxes f.shape.rows) (place f.shape r c) (box 0 0) 0 (omega (arith, here.below)) ∙ ap fill here.there in
+    get_or-map fill (boxes_read f.shape) (place f.shape r c) (box 0 0) 0 (omega (arith, here.below)) ∙ ap fill here.there in
     ap (letter_at f.shape.cartan) digit ∙ letter_at-letter_digit f.shape.cartan (letter_in f r c) good.shape.cartan (good.letters r c lt)) in
     ap (filling f.shape) (rows ∙ sym good.rows)

@@ -1,10 +1,10 @@
 -- No raising operator applies to the top word of a shape.
-use Rattle.std.proofs.Common.{◌≡◌, ◌∙◌, refl, ap, ap₂, subst, ℕ, zero, suc, ◌+◌, ◌-◌, ◌≤◌, ◌<◌, ◌==◌, nat_le, Bool, true, List, [], ◌∷◌, ◌++◌, length, map, replicate, pos, arith}
+use Rattle.std.proofs.Common.{◌≡◌, ◌∙◌, refl, ap, ap₂, subst, ℕ, zero, suc, ◌+◌, ◌-◌, ◌≤◌, ◌<◌, ◌==◌, nat_le, Bool, true, List, [], ◌∷◌, ◌++◌, length, map, reverse, replicate, pos, arith}
 use Rattle.std.specs.Ordering.{int_eq}
 use Rattle.std.specs.List.{range_with_len}
 use Rattle.std.proofs.lemmas.Bool.{eqb-true}
 use Rattle.std.proofs.lemmas.Bool.Decides.{nat_tests}
-use Rattle.std.proofs.lemmas.List.{length-map, map-append}
+use Rattle.std.proofs.lemmas.List.{length-map, map-append, length-reverse, reverse-reverse, replicate-append-replicate}
 use Rattle.crystal_cartan.specs.Types.{CartanType, IsCartan, HasIndex, coordinates, coordinates_of}
 use Rattle.crystal_cartan.specs.Crystals.{action}
 use Rattle.crystal_cartan.specs.declared.types.Kind.{Kind}
@@ -14,13 +14,19 @@ use Rattle.vector_crystals.specs.VectorCrystals.{vector_edges_of, vector_edges, 
 use Rattle.vector_crystals.proofs.Tables.{all_below, below_at, all_ranks, ranks_at}
 use Rattle.vector_crystals.proofs.Digits.{letter_at-unbarred}
 use Rattle.tensor_words.specs.declared.spaces.Factor.TheVariants.{Vector}
-use Rattle.tensor_words.specs.Spaces.{base_action}
+use Rattle.tensor_words.specs.declared.spaces.Order.{Order}
+use Rattle.tensor_words.specs.declared.spaces.Order.TheVariants.{Standard, Kashiwara}
+use Rattle.tensor_words.specs.Spaces.{tensor_space, ordered, HasFactors, base_action, base_size}
+use Rattle.tensor_words.specs.Codes.{AreDigits, IsWord}
+use Rattle.tensor_words.proofs.Reversal.{law_of_reversal, reverse_first}
 use Rattle.tensor_words.specs.TensorRule as rule
 use Rattle.tensor_words.specs.TensorRule.{word_eps, word_phi}
-use Rattle.tableau_reading.specs.Shapes.{ShapeType, IsShape, box_count}
-use Rattle.tableau_reading.specs.Readings.{Box, box, height, width, column_boxes, boxes_before, boxes, top_word}
+use Rattle.tableau_reading.specs.Shapes.{ShapeType, IsShape, box_count, shape_space}
+use Rattle.tableau_reading.specs.Readings.{Box, box, height, width, column_boxes, boxes_before, boxes, boxes_read, listed_in, top_word}
 use Rattle.tableau_reading.specs.Laws.{TopHasRows, TopIsHighest}
 use Rattle.tableau_reading.proofs.Boxes.{height-le, length-boxes}
+use Rattle.tableau_reading.proofs.Orders.{length-boxes_read, map-listed}
+use Rattle.tableau_reading.proofs.VectorSpaces.{all_vectors}
 
 -- ---- what an index does at the letters without a bar
 
@@ -84,6 +90,27 @@ follows_more zero ds es h = tt
 follows_more (suc d) [] es h = absurd h
 follows_more (suc d) (e ∷ ds) es h = h
 
+-- digits below n
+abbrev pub AreBelow : ℕ → List ℕ → Type 0
+AreBelow n [] = Unit {0}
+AreBelow n (d ∷ ds) = (d < n) × AreBelow n ds
+
+steps_below : (n : ℕ) (ds : List ℕ) → AreSteps n ds → AreBelow n ds
+steps_below n [] h = tt
+steps_below n (d ∷ ds) h = (h.0, steps_below n ds h.2)
+
+below-append : (n : ℕ) (ds es : List ℕ) → AreBelow n ds → AreBelow n es → AreBelow n (ds ++ es)
+below-append n [] es h k = k
+below-append n (d ∷ ds) es h k = (h.0, below-append n ds es h.1 k)
+
+below-reverse : (n : ℕ) (ds : List ℕ) → AreBelow n ds → AreBelow n (reverse ds)
+below-reverse n [] h = tt
+below-reverse n (d ∷ ds) h = rw (reverse_first d ds) (below-append n (reverse ds) (d ∷ []) (below-reverse n ds h.1) (h.0, tt))
+
+below-listed : (o : Order) (n : ℕ) (ds : List ℕ) → AreBelow n ds → AreBelow n (listed_in o ds)
+below-listed Standard n ds h = h
+below-listed Kashiwara n ds h = below-reverse n ds h
+
 pub steps-append : (n : ℕ) (ds es : List ℕ) → AreSteps n ds → AreSteps n es → AreSteps n (ds ++ es)
 steps-append n [] es h k = k
 steps-append n (d ∷ ds) es h k = (h.0, follows_more d ds es h.1, steps-append n ds es h.2 k)
@@ -134,21 +161,61 @@ top_steps rows n (suc c) le =
     rw (top_more rows c) (steps-append n (map (λ (b : Box). b.row) (boxes_before rows c)) (descending (height rows c))
     (top_steps rows n c le) (descending_steps n (height rows c) (omega (arith, height-le rows c))))
 
-pub length-top : (s : ShapeType) → IsShape s → length (map (λ (b : Box). b.row) (boxes s.rows)) ≡ box_count s
-length-top s h = length-map (boxes s.rows) (λ (b : Box). b.row) ∙ length-boxes s.rows h.falling
+-- the top word lists the rows of the boxes in the order of the reading
+pub top_listed : (s : ShapeType) → map (λ (b : Box). b.row) (boxes_read s) ≡ listed_in s.order (map (λ (b : Box). b.row) (boxes s.rows))
+top_listed s = map-listed s.order (λ (b : Box). b.row) (boxes s.rows)
+
+pub length-top : (s : ShapeType) → IsShape s → length (map (λ (b : Box). b.row) (boxes_read s)) ≡ box_count s
+length-top s h = length-map (boxes_read s) (λ (b : Box). b.row) ∙ length-boxes_read s h.falling
+
+pub top_below : (s : ShapeType) → IsShape s → AreBelow (coordinates s.cartan) (map (λ (b : Box). b.row) (boxes_read s))
+top_below s h =
+    let steps : AreSteps (coordinates s.cartan) (map (λ (b : Box). b.row) (boxes s.rows)) = top_steps s.rows (coordinates s.cartan) (width s.rows) h.low in
+    rw (top_listed s) (below-listed s.order (coordinates s.cartan) (map (λ (b : Box). b.row) (boxes s.rows)) (steps_below _ _ steps))
+
+below_are_digits : (t : CartanType) (ds : List ℕ) → AreBelow (coordinates t) ds → AreDigits (map (base_size t) (replicate (length ds) Vector)) ds
+unfolding base_size
+below_are_digits t [] below = tt
+below_are_digits t (d ∷ ds) below = (omega (arith, below.0, count_le t.kind t.rank), below_are_digits t ds below.1)
+
+-- the top word of a shape is a word of its space
+pub top_is_word : (s : ShapeType) → IsShape s → IsWord (shape_space s) (top_word s)
+unfolding top_word
+top_is_word s h =
+    let digits = below_are_digits s.cartan (map (λ (b : Box). b.row) (boxes_read s)) (top_below s h) in
+    rw (length-top s h) at digits
+
+reverse-replicate : {E : Type 0} (n : ℕ) (x : E) → reverse (replicate n x) ≡ replicate n x
+reverse-replicate zero x = refl
+reverse-replicate (suc n) x =
+    let next : n + 1 ≡ suc n = omega arith in
+    reverse_first x (replicate n x) ∙ (ap (λ xs. xs ++ x ∷ []) (reverse-replicate n x) ∙ (replicate-append-replicate n 1 x ∙ ap (λ m. replicate m x) next))
+
+-- in Kashiwara's order the same word read from its other end
+no_eps_in : (o : Order) (t : CartanType) (i : ℕ) (ds : List ℕ) → IsCartan t → HasIndex t i → AreSteps (coordinates t) ds →
+    (rule.action (ordered o (tensor_space t (replicate (length ds) Vector))) i).eps (listed_in o ds) ≡ 0
+unfolding rule.action
+no_eps_in Standard t i ds c index steps = no_eps t i ds c index steps
+no_eps_in Kashiwara t i ds c index steps =
+    let factors : HasFactors (tensor_space t (replicate (length ds) Vector)) = record { cartan = c; had = all_vectors t.kind (length ds) } in
+    let digits = below_are_digits t (reverse ds) (below-reverse (coordinates t) ds (steps_below (coordinates t) ds steps)) in
+    let word : IsWord (tensor_space t (replicate (length ds) Vector)) (reverse ds) = rw (length-reverse ds) at digits in
+    (law_of_reversal t i (replicate (length ds) Vector) (reverse ds) factors index word).eps
+    ∙ rw (reverse-replicate (length ds) Vector, reverse-reverse ds) (no_eps t i ds c index steps)
 
 pub top_is_highest : TopIsHighest
-unfolding rule.action top_word
+unfolding top_word
 top_is_highest s i h index =
     let steps : AreSteps (coordinates s.cartan) (map (λ (b : Box). b.row) (boxes s.rows)) = top_steps s.rows (coordinates s.cartan) (width s.rows) h.low in
-    let none = no_eps s.cartan i (map (λ (b : Box). b.row) (boxes s.rows)) h.cartan index steps in
-    rw (length-top s h) at none
+    let none = no_eps_in s.order s.cartan i (map (λ (b : Box). b.row) (boxes s.rows)) h.cartan index steps in
+    let size : length (map (λ (b : Box). b.row) (boxes s.rows)) ≡ box_count s = length-map (boxes s.rows) (λ (b : Box). b.row) ∙ length-boxes s.rows h.falling in
+    rw (top_listed s, ← size) none
 
-unbarred_rows : (t : CartanType) (bs : List Box) → IsCartan t → AreSteps (coordinates t) (map (λ (b : Box). b.row) bs) →
+unbarred_rows : (t : CartanType) (bs : List Box) → IsCartan t → AreBelow (coordinates t) (map (λ (b : Box). b.row) bs) →
     map (letter_at t) (map (λ (b : Box). b.row) bs) ≡ map (λ (b : Box). pos (b.row + 1)) bs
-unbarred_rows t [] c steps = refl
-unbarred_rows t (b ∷ bs) c steps = ap₂ (λ x xs. x ∷ xs) (unbarred t b.row c steps.0) (unbarred_rows t bs c steps.2)
+unbarred_rows t [] c below = refl
+unbarred_rows t (b ∷ bs) c below = ap₂ (λ x xs. x ∷ xs) (unbarred t b.row c below.0) (unbarred_rows t bs c below.1)
 
 pub top_has_rows : TopHasRows
 unfolding top_word
-top_has_rows s h = unbarred_rows s.cartan (boxes s.rows) h.cartan (top_steps s.rows (coordinates s.cartan) (width s.rows) h.low)
+top_has_rows s h = unbarred_rows s.cartan (boxes_read s) h.cartan (top_below s h)

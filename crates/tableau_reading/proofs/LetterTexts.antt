@@ -13,7 +13,7 @@ use Rattle.crystal_cartan.specs.declared.types.Kind.TheVariants.{A, B, C, D}
 use Rattle.vector_crystals.specs.Letters.{letters, letters_of, IsLetter, letter_count, letter_count_of, letter_at, letter_digit}
 use Rattle.vector_crystals.proofs.Tables.{all_below, below_at, all_ranks, ranks_at}
 use Rattle.text_pieces.specs.Pieces.{is_word}
-use Rattle.tableau_reading.specs.Tokens.{letter_value, digit_of_letter}
+use Rattle.tableau_reading.specs.Tokens.{letter_value, digit_if_letter}
 
 -- ---- the digit of a letter
 
@@ -29,16 +29,16 @@ length-letters t c =
     let row : (length (letters_of t.kind t.rank) == letter_count t) ≡ true = ranks_at (λ k r. length (letters_of k r) == letter_count_of k r) count_rows t c in
     grind (arith, nat_tests)
 
-pub letter_known : (t : CartanType) (x : ℤ) (d : ℕ) → IsCartan t → d ≡ letter_digit t x → d < letter_count t → Some d ≡ digit_of_letter t x
+pub letter_known : (t : CartanType) (x : ℤ) (d : ℕ) → IsCartan t → d ≡ letter_digit t x → d < letter_count t → Some d ≡ digit_if_letter t x
 letter_known t x d c is below =
     let size : length (letters t) ≡ letter_count t = length-letters t c in
     let test : nat_lt (letter_digit t x) (length (letters t)) ≡ true = grind (arith, nat_tests) in
     rw test (ap Some is)
 
-pub letter_unknown : (t : CartanType) (x : ℤ) → (IsLetter t x → ⊥) → None ≡ digit_of_letter t x
-letter_unknown t x none = by_place (digit_of_letter t x) refl
+pub letter_unknown : (t : CartanType) (x : ℤ) → (IsLetter t x → ⊥) → None ≡ digit_if_letter t x
+letter_unknown t x none = by_place (digit_if_letter t x) refl
   where
-    by_place : (r : Option ℕ) → digit_of_letter t x ≡ r → None ≡ r
+    by_place : (r : Option ℕ) → digit_if_letter t x ≡ r → None ≡ r
     by_place None is = refl
     by_place (Some k) is =
         let found = position-Some (λ y. int_eq y x) (letters t) k x is in
@@ -78,7 +78,7 @@ text_rows D = refl
 -- the same as facts
 pub record IsLetterText (t : CartanType) (d : ℕ) : Type 0 where
   pub text : signed_decimal (letter_at t d) ≡ short_text (letter_at t d)
-  pub back : option_and_then (digit_of_letter t) (letter_value (signed_decimal (letter_at t d))) ≡ Some d
+  pub back : option_and_then (digit_if_letter t) (letter_value (signed_decimal (letter_at t d))) ≡ Some d
   pub word : is_word (signed_decimal (letter_at t d)) ≡ true
   pub narrow : 2 ^ (1 + length (signed_decimal (letter_at t d))) ≤ letter_count t * letter_count t
 

@@ -6,6 +6,7 @@ pub mod WordTexts
 pub mod TokenSteps
 pub mod Rows
 pub mod Boxes
+pub mod Orders
 pub mod VectorSpaces
 pub mod Tops
 pub mod Written

@@ -1,5 +1,5 @@
 -- The weight of the top word of a shape.
-use Rattle.std.proofs.Common.{◌≡◌, ◌∙◌, refl, sym, ap, ap₂, ℕ, zero, suc, ◌+◌, ◌-◌, ◌*◌, ◌≤◌, ◌<◌, ◌==◌, nat_lt, min, Bool, true, false, if◌then◌else◌, List, [], ◌∷◌, ◌++◌, length, map, get_or, replicate, ℤ, pos, negsuc, ◌+ℤ◌, inl, inr, arith}
+use Rattle.std.proofs.Common.{◌≡◌, ◌∙◌, refl, sym, ap, ap₂, ℕ, zero, suc, ◌+◌, ◌-◌, ◌*◌, ◌≤◌, ◌<◌, ◌==◌, nat_lt, min, Bool, true, false, if◌then◌else◌, List, [], ◌∷◌, ◌++◌, length, map, reverse, get_or, replicate, ℤ, pos, negsuc, ◌+ℤ◌, inl, inr, arith}
 use Rattle.std.specs.Prelude.{slice_index}
 use Rattle.std.specs.Ordering.{int_eq}
 use Rattle.std.specs.List.{range_with_len}
@@ -12,12 +12,15 @@ use Rattle.crystal_cartan.proofs.Coordinates.{length-weight_from, coordinate-wei
 use Rattle.vector_crystals.specs.Letters.{barred}
 use Rattle.vector_crystals.specs.VectorCrystals.{letter_weight}
 use Rattle.tensor_words.specs.declared.spaces.Factor.TheVariants.{Vector}
+use Rattle.tensor_words.specs.declared.spaces.Order.{Order}
+use Rattle.tensor_words.specs.declared.spaces.Order.TheVariants.{Standard, Kashiwara}
 use Rattle.tensor_words.specs.Spaces.{base_weight, weight_along, word_weight}
 use Rattle.tableau_reading.specs.Shapes.{is_falling}
-use Rattle.tableau_reading.specs.Readings.{Box, height, width, boxes_before, boxes, top_word}
+use Rattle.tableau_reading.specs.Readings.{Box, height, width, boxes_before, boxes, boxes_read, listed_in, top_word}
 use Rattle.tableau_reading.specs.Laws.{TopHasWeight}
 use Rattle.tableau_reading.proofs.Boxes.{one_more, none_more, in_row, in_column, row_le}
-use Rattle.tableau_reading.proofs.HighestTops.{AreSteps, descending, unbarred, top_more, top_steps, length-top}
+use Rattle.tableau_reading.proofs.HighestTops.{AreBelow, descending, unbarred, top_more, top_listed, top_below, length-top}
+use Rattle.tensor_words.proofs.Reversal.{reverse_first}
 
 -- ---- weights by the numbers of letters
 
@@ -68,11 +71,11 @@ sum_from n f g =
     rw (length-weight_from n f) (from_same (λ j. coordinate (weight_from n f) j +ℤ coordinate (weight_from n g) j) (λ j. f j +ℤ g j) 1 n (λ j low high.
     ap₂ (λ x y. x +ℤ y) (coordinate-weight_from n f j low (omega arith)) (coordinate-weight_from n g j low (omega arith))))
 
-weight_counted : (t : CartanType) (ds : List ℕ) → IsCartan t → AreSteps (coordinates t) ds →
+weight_counted : (t : CartanType) (ds : List ℕ) → IsCartan t → AreBelow (coordinates t) ds →
     weight_along t (replicate (length ds) Vector) ds ≡ weight_from (coordinates t) (λ j. pos (2 * counted j ds))
-weight_counted t [] c steps = refl
-weight_counted t (d ∷ ds) c steps =
-    ap₂ sum_of (vector_weight t d c steps.0) (weight_counted t ds c steps.2)
+weight_counted t [] c below = refl
+weight_counted t (d ∷ ds) c below =
+    ap₂ sum_of (vector_weight t d c below.0) (weight_counted t ds c below.1)
     ∙ (sum_from (coordinates t) (λ j. pos (2 * one_if (d + 1) j)) (λ j. pos (2 * counted j ds))
     ∙ from_same (λ j. pos (2 * one_if (d + 1) j) +ℤ pos (2 * counted j ds)) (λ j. pos (2 * counted j (d ∷ ds))) 1 (coordinates t) (λ j low high. ap (λ n. pos n) (omega arith)))
 
@@ -81,6 +84,14 @@ weight_counted t (d ∷ ds) c steps =
 counted-append : (j : ℕ) (ds es : List ℕ) → counted j (ds ++ es) ≡ counted j ds + counted j es
 counted-append j [] es = omega arith
 counted-append j (d ∷ ds) es = omega (arith, counted-append j ds es)
+
+counted-reverse : (j : ℕ) (ds : List ℕ) → counted j (reverse ds) ≡ counted j ds
+counted-reverse j [] = refl
+counted-reverse j (d ∷ ds) = omega (arith, ap (counted j) (reverse_first d ds), counted-append j (reverse ds) (d ∷ []), counted-reverse j ds)
+
+counted-listed : (o : Order) (j : ℕ) (ds : List ℕ) → counted j (listed_in o ds) ≡ counted j ds
+counted-listed Standard j ds = refl
+counted-listed Kashiwara j ds = counted-reverse j ds
 
 counted_down : (j h : ℕ) → 1 ≤ j → counted j (descending h) ≡ (if nat_lt (j - 1) h then 1 else 0)
 counted_down j zero low = sym (none_more (j - 1) 0 (omega arith))
@@ -123,10 +134,11 @@ row_within (n ∷ rows) (suc r) falls = row_le n rows r falls
 pub top_has_weight : TopHasWeight
 unfolding word_weight top_word
 top_has_weight s h =
-    let ds : List ℕ = map (λ (b : Box). b.row) (boxes s.rows) in
-    let steps : AreSteps (coordinates s.cartan) (map (λ (b : Box). b.row) (boxes s.rows)) = top_steps s.rows (coordinates s.cartan) (width s.rows) h.low in
-    let weight = weight_counted s.cartan (map (λ (b : Box). b.row) (boxes s.rows)) h.cartan steps in
+    let ds : List ℕ = map (λ (b : Box). b.row) (boxes_read s) in
+    let weight = weight_counted s.cartan (map (λ (b : Box). b.row) (boxes_read s)) h.cartan (top_below s h) in
     let here = rw (length-top s h) at weight in
+    let times : (j : ℕ) → counted j (map (λ (b : Box). b.row) (boxes_read s)) ≡ counted j (map (λ (b : Box). b.row) (boxes s.rows)) =
+    λ j. ap (counted j) (top_listed s) ∙ counted-listed s.order j (map (λ (b : Box). b.row) (boxes s.rows)) in
     here
-    ∙ from_same (λ j. pos (2 * counted j (map (λ (b : Box). b.row) (boxes s.rows)))) (λ j. pos (2 * slice_index s.rows (j - 1))) 1 (coordinates s.cartan) (λ j low high.
-    ap (λ n. pos n) (omega (arith, counted_top s.rows j (width s.rows) h.falling low, row_within s.rows (j - 1) h.falling)))
+    ∙ from_same (λ j. pos (2 * counted j (map (λ (b : Box). b.row) (boxes_read s)))) (λ j. pos (2 * slice_index s.rows (j - 1))) 1 (coordinates s.cartan) (λ j low high.
+    ap (λ n. pos n) (omega (arith, times j, counted_top s.rows j (width s.rows) h.falling low, row_within s.rows (j - 1) h.falling)))

@@ -9,7 +9,7 @@ use Rattle.crystal_cartan.specs.declared.types.Kind.{Kind}
 use Rattle.vector_crystals.specs.Letters.{letter_count}
 use Rattle.tensor_words.specs.declared.spaces.Factor.TheVariants.{Vector}
 use Rattle.tensor_words.specs.Spaces.{IsSpace, has_factor, base_size, product, wrong_place, space_of, size_at}
-use Rattle.tableau_reading.specs.Shapes.{ShapeType, IsShape, box_count, shape_space}
+use Rattle.tableau_reading.specs.Shapes.{ShapeType, IsShape, box_count, vector_space, shape_space}
 use Rattle.tableau_reading.proofs.Rows.{few_boxes, few_words}
 use Rattle.tableau_reading.proofs.Boxes.{some_boxes}
 
@@ -18,7 +18,7 @@ unfolding base_size
 product_vectors t zero = sym (pow-zero (letter_count t))
 product_vectors t (suc n) = rw (product_vectors t n) (sym (pow-succ' (letter_count t) n))
 
-all_vectors : (k : Kind) (n : ℕ) → IsTrue (list_all (has_factor k) (replicate n Vector))
+pub all_vectors : (k : Kind) (n : ℕ) → IsTrue (list_all (has_factor k) (replicate n Vector))
 all_vectors k zero = refl
 all_vectors k (suc n) = all_vectors k n
 
@@ -37,9 +37,9 @@ shape_is_space s h =
       narrow = rw (product_vectors s.cartan (box_count s)) (few_words s.cartan (box_count s) h.small);
     }
 
-pub shape_space_of : (s : ShapeType) → IsShape s → space_of s.cartan (replicate (box_count s) Vector) ≡ Ok (shape_space s)
+pub vector_space_of : (s : ShapeType) → IsShape s → space_of s.cartan (replicate (box_count s) Vector) ≡ Ok (vector_space s)
 unfolding space_of
-shape_space_of s h =
+vector_space_of s h =
     let size : length (replicate (box_count s) Vector) ≡ box_count s = length-replicate (box_count s) Vector in
     let some : 0 < box_count s = some_boxes s.rows h.filled in
     let few : box_count s ≤ 40 = few_boxes s.cartan (box_count s) h.small in

@@ -5,18 +5,25 @@ use Rattle.crystal_cartan.specs.Types.{CartanType, IsCartan, coordinates}
 use Rattle.crystal_cartan.specs.Weights.{weight_from}
 use Rattle.vector_crystals.specs.Letters.{letter_count}
 use Rattle.tensor_words.specs.declared.spaces.Factor.TheVariants.{Vector}
-use Rattle.tensor_words.specs.Spaces.{SpaceType, tensor_space}
+use Rattle.tensor_words.specs.declared.spaces.Order.{Order}
+use Rattle.tensor_words.specs.declared.spaces.Order.TheVariants.{Standard}
+use Rattle.tensor_words.specs.Spaces.{SpaceType, tensor_space, ordered}
 use Rattle.tableau_reading.specs.declared.shapes.ShapeFault.{ShapeFault}
 use Rattle.tableau_reading.specs.declared.shapes.ShapeFault.TheVariants.{Empty, NotFalling, TooTall, TooManyBoxes}
 
--- a shape, as contracts see it: its type, and the lengths of its rows from the top down
+-- a shape, as contracts see it: its type, the lengths of its rows from the top down, and the tensor order of its words
 pub record ShapeType : Type 0 where
   pub cartan : CartanType
   pub rows : List ℕ
+  pub order : Order
 
--- the shape with these rows; contracts make a shape by this word alone
+-- the shape with these rows, in the standard order; contracts make a shape by this word and the next alone
 abbrev pub tableau_shape : CartanType → List ℕ → ShapeType
-tableau_shape t rows = record { cartan = t; rows = rows }
+tableau_shape t rows = record { cartan = t; rows = rows; order = Standard }
+
+-- the same shape, its words in this tensor order
+abbrev pub shape_in : Order → ShapeType → ShapeType
+shape_in o s = record { cartan = s.cartan; rows = s.rows; order = o }
 
 -- whether there is no row, or a row with no box
 abbrev pub is_empty : List ℕ → Bool
@@ -54,8 +61,12 @@ abbrev pub box_count : ShapeType → ℕ
 box_count s = sum s.rows
 
 -- the words that fill a shape: one letter for each box
+abbrev pub vector_space : ShapeType → SpaceType
+vector_space s = tensor_space s.cartan (replicate (box_count s) Vector)
+
+-- the same in the tensor order of the shape
 abbrev pub shape_space : ShapeType → SpaceType
-shape_space s = tensor_space s.cartan (replicate (box_count s) Vector)
+shape_space s = ordered s.order (vector_space s)
 
 -- the weight of a shape: the lengths of its rows, doubled as weights are kept
 abbrev pub shape_weight : ShapeType → List ℤ

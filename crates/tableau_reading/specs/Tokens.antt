@@ -1,8 +1,7 @@
 -- How words are read.
-use Rattle.std.specs.Prelude.{ℕ, ◌+◌, ◌==◌, ◌&&◌, Bool, if◌then◌else◌, List, [], ◌∷◌, length, position, ℤ, pos, neg_ℤ, Option, Some, None, option_map, option_and_then, Result, Ok, Err}
-use Rattle.std.specs.Ordering.{int_eq}
+use Rattle.std.specs.Prelude.{ℕ, ◌+◌, ◌==◌, ◌&&◌, nat_lt, Bool, if◌then◌else◌, List, [], ◌∷◌, length, ℤ, pos, neg_ℤ, Option, Some, None, option_map, option_and_then, Result, Ok, Err}
 use Rattle.crystal_cartan.specs.Types.{CartanType}
-use Rattle.vector_crystals.specs.Letters.{letters}
+use Rattle.vector_crystals.specs.Letters.{letters, letter_digit}
 use Rattle.spin_crystals.specs.Signs.{plus, minus, is_of_half, signs_digit}
 use Rattle.spin_crystals.specs.declared.signs.Half.{Half}
 use Rattle.spin_crystals.specs.declared.signs.Half.TheVariants.{Whole, Plus, Minus}
@@ -23,9 +22,9 @@ letter_value [] = None
 letter_value (byte ∷ bytes) =
     if byte == 45 then option_and_then negated (read_digits 2 bytes) else option_map (λ n. pos n) (read_digits 2 (byte ∷ bytes))
 
--- the place of a letter in the list of the type, which is its digit
-abbrev pub digit_of_letter : CartanType → ℤ → Option ℕ
-digit_of_letter t x = position (λ y. int_eq y x) (letters t)
+-- the digit of a number that is a letter of the type
+abbrev pub digit_if_letter : CartanType → ℤ → Option ℕ
+digit_if_letter t x = if nat_lt (letter_digit t x) (length (letters t)) then Some (letter_digit t x) else None
 
 -- the sign that a byte is
 abbrev pub sign_of : ℕ → Option Bool
@@ -41,7 +40,7 @@ read_signs t half token = option_and_then (digit_of_signs t half) (all_some sign
 
 -- the digit of the element that a token stands for
 unfoldable pub token_digit : CartanType → Factor → List ℕ → Option ℕ
-token_digit t Vector token = option_and_then (digit_of_letter t) (letter_value token)
+token_digit t Vector token = option_and_then (digit_if_letter t) (letter_value token)
 token_digit t Spin token = read_signs t Whole token
 token_digit t SpinPlus token = read_signs t Plus token
 token_digit t SpinMinus token = read_signs t Minus token

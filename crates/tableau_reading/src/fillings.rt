@@ -3,7 +3,7 @@ ghost use Rattle.std.specs.Prelude.{◌≡◌, ℕ, ◌-◌, ◌<◌, slice_inde
 ghost use Rattle.vector_crystals.specs.Letters.{IsLetter, letter_count, letter_at};
 ghost use Rattle.tensor_words.specs.Codes.{IsWord};
 ghost use Rattle.tableau_reading.specs.Shapes.{box_count, shape_space};
-ghost use Rattle.tableau_reading.specs.Readings.{Box, box, boxes};
+ghost use Rattle.tableau_reading.specs.Readings.{box, boxes_read};
 ghost use Rattle.tableau_reading.specs.Fillings.{letter_in, HasBox, IsFilling, first_filling, with_letter, filling_word, filling_of};
 
 use crate::parsing::some_word;
@@ -76,7 +76,7 @@ impl Filling {
     /// The letter at a place of the reading, from 0.
     fn letter_at(&self, place: u8) -> Letter
         requires { place < box_count self.now.shape }
-        ensures letter { let b = slice_index_or (boxes self.now.shape.rows) place (box 0 0) in result.0 ≡ letter_in self.now b.row b.column }
+        ensures letter { let b = slice_index_or (boxes_read self.now.shape) place (box 0 0) in result.0 ≡ letter_in self.now b.row b.column }
         ensures of_type { IsLetter self.now.shape.cartan result.0 }
         ensures filling { IsFilling self.now }
     {

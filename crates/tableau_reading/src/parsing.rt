@@ -7,12 +7,12 @@ ghost use Rattle.tensor_words.specs.Spaces.{has_factor, base_size};
 ghost use Rattle.tensor_words.specs.Codes.{IsWord};
 ghost use Rattle.text_pieces.specs.Numbers.{read_digits, all_some};
 ghost use Rattle.text_pieces.specs.Pieces.{words};
-ghost use Rattle.tableau_reading.specs.Tokens.{negated, letter_value, digit_of_letter, sign_of, read_signs, token_digit, bad_token, word_read};
+ghost use Rattle.tableau_reading.specs.Tokens.{negated, letter_value, digit_if_letter, sign_of, read_signs, token_digit, bad_token, word_read};
 
 use crystal_cartan::Cartan;
 use spin_crystals::{Half, Signs};
 use tensor_words::{Factor, Space, Word};
-use text_pieces::{count_words, first_word};
+use text_pieces::{count_words, first_word, read_digits};
 use vector_crystals::{Letter, is_letter};
 
 /// Why a text is no word of a space.
@@ -91,7 +91,7 @@ fn token_digit(cartan: Cartan, factor: Factor, token: &[u8]) -> Option<u16>
 
 /// The digit of the letter that a token stands for.
 fn letter_digit(cartan: Cartan, token: &[u8]) -> Option<u16>
-    ensures value { result ≡ option_and_then (digit_of_letter cartan) (letter_value token.now) }
+    ensures value { result ≡ option_and_then (digit_if_letter cartan) (letter_value token.now) }
     ensures below { IfSome result (λ d. d < letter_count cartan) }
 {
     let _classical = vector_crystals::base_size(cartan);
@@ -130,13 +130,8 @@ fn two_digits(text: &[u8]) -> Option<u8>
     ensures value { result ≡ read_digits 2 text.now }
     ensures below { IfSome result (λ number. number < 100) }
 {
-    match text {
-        [one] if one.is_ascii_digit() => Some(*one - b'0'),
-        [ten, one] if ten.is_ascii_digit() && one.is_ascii_digit() => {
-            Some(10 * (*ten - b'0') + (*one - b'0'))
-        }
-        _ => None,
-    }
+    let value = read_digits(text, 2)?;
+    Some(value as u8)
 }
 
 /// The digit of the vector that a token of signs stands for.

@@ -1,12 +1,13 @@
-//! Readings of shapes: the columns from left to right, each from bottom to top.
+//! Readings of shapes: the columns from left to right, each from bottom to top, and in Kashiwara's tensor order from
+//! the other end.
 ghost use Rattle.std.specs.Prelude.{◌≡◌, ℕ, ◌≤◌, ◌<◌, nat_lt, length, slice_index, slice_index_or, count_by};
 ghost use Rattle.tensor_words.specs.Codes.{IsWord};
 ghost use Rattle.tableau_reading.specs.Shapes.{IsShape, box_count, shape_space};
-ghost use Rattle.tableau_reading.specs.Readings.{box, boxes, boxes_before, height, width, place, top_word};
+ghost use Rattle.tableau_reading.specs.Readings.{box, boxes, boxes_read, height, column_place, place_in, place, top_word};
 
 use crate::parsing::some_word;
 use crate::shapes::Shape;
-use tensor_words::Word;
+use tensor_words::{Order, Word};
 
 impl Shape {
     /// The top word: the i-th letter in every box of row i, from 1 (Bump and Schilling, Crystal Bases, 2017,
@@ -29,6 +30,41 @@ impl Shape {
     /// The row and the column, from 0, of the box at a place of the reading.
     pub(crate) fn box_at(&self, place: u8) -> (u8, u8)
         requires { place < box_count self.now }
+        ensures there { slice_index_or (boxes_read self.now) place (box 0 0) ≡ box result.0 result.1 }
+        ensures row { result.0 < length self.now.rows }
+        ensures column { result.1 < slice_index self.now.rows result.0 }
+        ensures shape { IsShape self.now }
+    {
+        self.box_in_columns(self.from_end(place))
+    }
+
+    /// The place in the reading of the box in this row and column, from 0.
+    pub(crate) fn place_of(&self, row: u8, column: u8) -> u8
+        requires { column < slice_index self.now.rows row }
+        ensures place { result ≡ place self.now row column }
+        ensures below { result < box_count self.now }
+        ensures shape { IsShape self.now }
+    {
+        self.from_end(self.place_in_columns(row, column))
+    }
+
+    /// A place of the reading, counted from its first place in the standard order and from its last in Kashiwara's.
+    fn from_end(&self, place: u8) -> u8
+        requires { place < box_count self.now }
+        ensures place { result ≡ place_in self.now.order (box_count self.now) place }
+        ensures below { result < box_count self.now }
+        ensures shape { IsShape self.now }
+    {
+        let boxes = self.boxes();
+        match self.order() {
+            Order::Standard => place,
+            Order::Kashiwara => boxes - 1 - place,
+        }
+    }
+
+    /// The row and the column, from 0, of the box at a place of the columns from left to right.
+    fn box_in_columns(&self, place: u8) -> (u8, u8)
+        requires { place < box_count self.now }
         ensures there { slice_index_or (boxes self.now.rows) place (box 0 0) ≡ box result.0 result.1 }
         ensures row { result.0 < length self.now.rows }
         ensures column { result.1 < slice_index self.now.rows result.0 }
@@ -45,10 +81,10 @@ impl Shape {
         unreachable!()
     }
 
-    /// The place in the reading of the box in this row and column, from 0.
-    pub(crate) fn place_of(&self, row: u8, column: u8) -> u8
+    /// The place in the columns from left to right of the box in this row and column, from 0.
+    fn place_in_columns(&self, row: u8, column: u8) -> u8
         requires { column < slice_index self.now.rows row }
-        ensures place { result ≡ place self.now row column }
+        ensures place { result ≡ column_place self.now.rows row column }
         ensures below { result < box_count self.now }
         ensures shape { IsShape self.now }
     {

@@ -5,12 +5,12 @@ ghost use Rattle.crystal_cartan.specs.Padded.{padded};
 ghost use Rattle.crystal_cartan.specs.Types.{coordinates};
 ghost use Rattle.crystal_cartan.specs.Weights.{IsWeight, IsSmall};
 ghost use Rattle.vector_crystals.specs.Letters.{letter_count};
-ghost use Rattle.tableau_reading.specs.Shapes.{is_empty, is_falling, is_large, shape_of, IsShape, box_count, shape_space, shape_weight};
+ghost use Rattle.tableau_reading.specs.Shapes.{is_empty, is_falling, is_large, shape_of, IsShape, box_count, shape_in, vector_space, shape_space, shape_weight};
 ghost use Rattle.tensor_words.specs.Spaces.{IsSpace};
 
 use crystal_cartan::{Cartan, Weight};
 use std::marker::Model;
-use tensor_words::{Factor, Space};
+use tensor_words::{Factor, Order, Space};
 
 /// The most boxes of a shape.
 const MOST_BOXES: u64 = 40;
@@ -32,25 +32,26 @@ pub enum ShapeFault {
 }
 
 /// The shape of a tableau: rows of boxes from the top down, none longer than the one above (Bump and Schilling,
-/// Crystal Bases, 2017, chapter 3).
+/// Crystal Bases, 2017, chapter 3), and the tensor order of the words that fill it.
 #[derive(Clone, Copy, Debug, PartialEq, Eq)]
 pub struct Shape {
     cartan: Cartan,
     rows: [u8; 9],
     count: u8,
+    order: Order,
 }
 
 impl Model for Shape {
     ghost use Rattle.std.specs.Prelude.{take};
     ghost use Rattle.crystal_cartan.specs.Padded.{IsPadded};
-    ghost use Rattle.tableau_reading.specs.Shapes.{ShapeType, tableau_shape, IsShape};
+    ghost use Rattle.tableau_reading.specs.Shapes.{ShapeType, tableau_shape, shape_in, IsShape};
     ghost use Rattle.tableau_reading.specs.ShapeFields.{shape_fields, shape_fields-view};
 
     ghost Value = { ShapeType };
 
-    ghost view = { λ s. tableau_shape s.cartan (take s.count s.rows) };
+    ghost view = { λ s. shape_in s.order (tableau_shape s.cartan (take s.count s.rows)) };
 
-    ghost invariant = { λ s. IsPadded 0 9 s.count s.rows × IsShape (tableau_shape s.cartan (take s.count s.rows)) };
+    ghost invariant = { λ s. IsPadded 0 9 s.count s.rows × IsShape (shape_in s.order (tableau_shape s.cartan (take s.count s.rows))) };
 
     ghost inverse = { shape_fields };
 
@@ -58,7 +59,7 @@ impl Model for Shape {
 }
 
 impl Shape {
-    /// The shape whose rows have these lengths, or the first fault that applies.
+    /// The shape whose rows have these lengths, in the standard tensor order, or the first fault that applies.
     #[tactic(auto, unfolding(crate::specs::Shapes::shape_of))]
     pub fn new(rows: &[u32], cartan: Cartan) -> Result<Shape, ShapeFault>
         ensures exact { result ≡ shape_of cartan rows.now }
@@ -80,7 +81,22 @@ impl Shape {
             cartan,
             rows: padded_rows(rows),
             count: rows.len() as u8,
+            order: Order::Standard,
         })
+    }
+
+    /// The same shape, its words in this tensor order.
+    pub fn ordered(self, order: Order) -> Shape
+        ensures { result ≡ shape_in order self }
+    {
+        Shape { order, ..self }
+    }
+
+    /// The tensor order of the words that fill the shape.
+    pub fn order(&self) -> Order
+        ensures { result ≡ self.now.order }
+    {
+        self.order
     }
 
     /// The Cartan type.
@@ -109,10 +125,18 @@ impl Shape {
         self.rows[(k - 1) as usize]
     }
 
-    /// The space of the words that fill the shape: a vector crystal for each box.
+    /// The space of the words that fill the shape: a vector crystal for each box, in the shape's tensor order.
     pub fn space(&self) -> Space
         ensures space { result ≡ shape_space self.now }
         ensures taken { IsSpace result }
+        ensures shape { IsShape self.now }
+    {
+        self.vector_space().ordered(self.order())
+    }
+
+    /// A vector crystal for each box, in the standard order.
+    fn vector_space(&self) -> Space
+        ensures space { result ≡ vector_space self.now }
         ensures shape { IsShape self.now }
     {
         match Space::new(self.cartan(), &vectors()[..self.boxes() as usize]) {

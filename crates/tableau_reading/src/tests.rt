@@ -4,7 +4,7 @@ ghost use Rattle.tensor_words.specs.Codes.{IsWord};
 use super::*;
 use crystal_cartan::{Cartan, Kind};
 use crystal_streams::Line;
-use tensor_words::{Factor, Space, Word};
+use tensor_words::{Factor, Order, Space, Word};
 use vector_crystals::{Letter, is_letter};
 
 const V: Factor = Factor::Vector;
@@ -12,6 +12,8 @@ const V: Factor = Factor::Vector;
 const S: Factor = Factor::Spin;
 
 const P: Factor = Factor::SpinPlus;
+
+const M: Factor = Factor::SpinMinus;
 
 fn space_of(kind: Kind, rank: u8, factors: &[Factor]) -> Option<Space> {
     Space::new(Cartan::new(kind, rank).ok()?, factors).ok()
@@ -35,6 +37,14 @@ fn is_read(space: &Space, text: &str, printed: &str) -> bool {
     match read_word(space, text.as_bytes()) {
         Ok(word) => is_printed(space, &word, printed),
         Err(_) => false,
+    }
+}
+
+/// The code of the word that a text is read as.
+fn code_read(space: &Space, text: &str) -> Option<u64> {
+    match read_word(space, text.as_bytes()) {
+        Ok(word) => Some(space.code_of(&word)),
+        Err(_) => None,
     }
 }
 
@@ -66,6 +76,7 @@ fn put_letter(filling: &mut Filling, row: u8, column: u8, value: i8) -> Option<L
 fn words(rt: HostRuntime) {
     let b2 = space_of(Kind::B, 2, &[S, V]).expect(&rt, "B_2 has spin elements");
     assert!(rt; is_read(&b2, "+- 0", "+- 0"));
+    assert_eq!(rt; code_read(&b2, "+- 0"), Some(7));
     assert!(rt; is_read(&b2, "  --  -02 ", "-- -2"));
     assert!(rt; has_weight(&b2, "+- 0", "1/2 -1/2"));
     let faults = [
@@ -86,6 +97,12 @@ fn words(rt: HostRuntime) {
     assert_eq!(rt;
         read_word(&d3, b"+-+").err(),
         Some(WordFault::BadSigns { place: 1 })
+    );
+    let odd = space_of(Kind::D, 3, &[V, M]).expect(&rt, "D_3 has spin elements");
+    assert!(rt; is_read(&odd, "-3 +-+", "-3 +-+"));
+    assert_eq!(rt;
+        read_word(&odd, b"-3 +--").err(),
+        Some(WordFault::BadSigns { place: 2 })
     );
 }
 
@@ -132,6 +149,12 @@ fn tops(rt: HostRuntime) {
     print_weight(&shape.weight(), &mut line);
     assert_eq!(rt; line.bytes(), b"3 2 1 0".as_slice());
     assert_eq!(rt; (shape.rows(), shape.boxes()), (3, 6));
+    let other = shape.ordered(Order::Kashiwara);
+    assert!(rt; is_printed(&other.space(), &other.top(), "1 1 2 1 2 3"));
+    assert_eq!(rt;
+        (shape.order(), other.order()),
+        (Order::Standard, Order::Kashiwara)
+    );
 }
 
 #[test]
@@ -143,6 +166,12 @@ fn fillings(rt: HostRuntime) {
     let shape = filling.shape();
     let word = shape.word_of_rows(&filling);
     assert!(rt; is_printed(&shape.space(), &word, "3 1 2"));
+    let mut other = Filling::new(&shape.ordered(Order::Kashiwara));
+    assert_eq!(rt; put_letter(&mut other, 1, 2, 2), Some(Letter(1)));
+    assert_eq!(rt; put_letter(&mut other, 2, 1, 3), Some(Letter(1)));
+    let turned = other.shape();
+    let reversed = turned.word_of_rows(&other);
+    assert!(rt; is_printed(&turned.space(), &reversed, "2 1 3"));
     let mut again = shape.rows_of_word(&word);
     assert_eq!(rt; put_letter(&mut again, 1, 2, 1), Some(Letter(2)));
     assert_eq!(rt; put_letter(&mut again, 2, 1, 1), Some(Letter(3)));

@@ -1,8 +1,9 @@
 -- The operators lead from words to words.
-use Rattle.std.proofs.Common.{◌≡◌, sym, ap, refl, subst, ℕ, ◌<◌, nat_le, nat_lt, IsTrue, Bool, true, false, if◌then◌else◌, List, [], ◌∷◌, map, Option, Some, None, IfSome, ℤ}
+use Rattle.std.proofs.Common.{◌≡◌, sym, ap, refl, subst, ℕ, ◌<◌, IsTrue, Bool, true, false, List, [], ◌∷◌, map, Option, Some, None, IfSome, ℤ, inl, inr}
 use Rattle.std.specs.List.{list_all}
 use Rattle.std.specs.Option.{option_map}
 use Rattle.crystal_cartan.specs.Types.{CartanType, IsCartan, HasIndex}
+use Rattle.crystal_cartan.specs.Crystals.{Action}
 use Rattle.crystal_cartan.specs.declared.types.Arrow.{Arrow}
 use Rattle.vector_crystals.specs.Letters.{IsLetter, letter_count, letter_digit, letter_at}
 use Rattle.vector_crystals.specs.VectorCrystals.{digit_action, letter_action}
@@ -13,10 +14,11 @@ use Rattle.spin_crystals.specs.declared.signs.Half.TheVariants.{Whole, Plus, Min
 use Rattle.spin_crystals.proofs.DigitLaws.{lowered_digit-below, raised_digit-below}
 use Rattle.tensor_words.specs.declared.spaces.Factor.{Factor}
 use Rattle.tensor_words.specs.declared.spaces.Factor.TheVariants.{Vector, Spin, SpinPlus, SpinMinus}
-use Rattle.tensor_words.specs.Spaces.{SpaceType, IsSpace, has_factor, base_size, base_action, size}
+use Rattle.tensor_words.specs.Spaces.{SpaceType, HasFactors, IsSpace, has_factor, base_size, base_action, size}
 use Rattle.tensor_words.specs.Codes.{AreDigits, IsWord, code_of, word_of}
-use Rattle.tensor_words.specs.TensorRule.{action, word_phi, word_lower, word_raise}
-use Rattle.tensor_words.specs.Operators.{IsArrow, acted, step_of, op}
+use Rattle.tensor_words.specs.TensorRule.{action, actions}
+use Rattle.tensor_words.specs.Operators.{IsArrow, acted, step_of, op, OperatorsKeepWords}
+use Rattle.tensor_words.proofs.FactorSteps.{IsFactorStep, lowering, raising, lowered_step, raised_step}
 use Rattle.tensor_words.proofs.SpaceWords.{code_below, word_back, IsWord-word_of}
 
 -- what a mapped option comes from
@@ -56,57 +58,41 @@ raised_below t i Spin d e c index had below is = raised_digit-below t Whole i d 
 raised_below t i SpinPlus d e c index had below is = raised_digit-below t Plus i d e c had index is
 raised_below t i SpinMinus d e c index had below is = raised_digit-below t Minus i d e c had index is
 
--- one of two changes: of the first digit, or of the rest
-either_digits :
-    (b d : ℕ) (bs ds u : List ℕ) (test : Bool) (first : Option ℕ) (rest : Option (List ℕ)) → AreDigits (b ∷ bs) (d ∷ ds) →
-    ((e : ℕ) → first ≡ Some e → e < b) → ((v : List ℕ) → rest ≡ Some v → AreDigits bs v) →
-    (if test then option_map (λ z. z ∷ ds) first else option_map (λ z. d ∷ z) rest) ≡ Some u → AreDigits (b ∷ bs) u
-either_digits b d bs ds u true first rest h below digits is =
-    let m : (e : ℕ) × (first ≡ Some e) × ((e ∷ ds) ≡ u) = mapped_some (λ z. z ∷ ds) first u is in
-    subst (AreDigits (b ∷ bs)) m.2 (below m.0 m.1, h.1)
-either_digits b d bs ds u false first rest h below digits is =
-    let m : (v : List ℕ) × (rest ≡ Some v) × ((d ∷ v) ≡ u) = mapped_some (λ z. d ∷ z) rest u is in
-    subst (AreDigits (b ∷ bs)) m.2 (h.0, digits m.0 m.1)
+-- a step of one factor that leads from digits of each factor to digits of it
+step_digits :
+    (step : Action ℕ → ℕ → Option ℕ) (t : CartanType) (i : ℕ) (fs : List Factor) (w u : List ℕ) →
+    ((f : Factor) (d e : ℕ) → IsTrue (has_factor t.kind f) → d < base_size t f → step (base_action t i f) d ≡ Some e → e < base_size t f) →
+    IsTrue (list_all (has_factor t.kind) fs) → AreDigits (map (base_size t) fs) w → IsFactorStep step (map (base_action t i) fs) w u →
+    AreDigits (map (base_size t) fs) u
+step_digits step t i [] w u each had h is = absurd is
+step_digits step t i (f ∷ fs) [] u each had h is = absurd h
+step_digits step t i (f ∷ fs) (d ∷ ds) u each had h is =
+    elim is [
+      | inl (e, made, same) ↦ rw same (each f d e (and_left _ _ had) h.0 made, h.1)
+      | inr (v, made, same) ↦ rw same (h.0, step_digits step t i fs ds v each (and_right (has_factor t.kind f) _ had) h.1 made)
+    ]
 
-none_is_no_word : {E : Type 0} (u : E) → None ≡ Some u → ⊥
-none_is_no_word u is = cc
-
-lower_digits :
-    (t : CartanType) (i : ℕ) (fs : List Factor) (w u : List ℕ) → IsCartan t → HasIndex t i → IsTrue (list_all (has_factor t.kind) fs) →
-    AreDigits (map (base_size t) fs) w → word_lower (map (base_action t i) fs) w ≡ Some u → AreDigits (map (base_size t) fs) u
-lower_digits t i [] w u c index had h is = absurd (none_is_no_word u is)
-lower_digits t i (f ∷ fs) [] u c index had h is = absurd h
-lower_digits t i (f ∷ fs) (d ∷ ds) u c index had h is =
-    either_digits (base_size t f) d (map (base_size t) fs) ds u
-    (nat_le (word_phi (map (base_action t i) fs) ds) ((base_action t i f).eps d)) ((base_action t i f).lower d) (word_lower (map (base_action t i) fs) ds)
-    h (λ e made. lowered_below t i f d e c index (and_left _ _ had) h.0 made)
-    (λ v made. lower_digits t i fs ds v c index (and_right (has_factor t.kind f) _ had) h.1 made) is
-
-raise_digits :
-    (t : CartanType) (i : ℕ) (fs : List Factor) (w u : List ℕ) → IsCartan t → HasIndex t i → IsTrue (list_all (has_factor t.kind) fs) →
-    AreDigits (map (base_size t) fs) w → word_raise (map (base_action t i) fs) w ≡ Some u → AreDigits (map (base_size t) fs) u
-raise_digits t i [] w u c index had h is = absurd (none_is_no_word u is)
-raise_digits t i (f ∷ fs) [] u c index had h is = absurd h
-raise_digits t i (f ∷ fs) (d ∷ ds) u c index had h is =
-    either_digits (base_size t f) d (map (base_size t) fs) ds u
-    (nat_lt (word_phi (map (base_action t i) fs) ds) ((base_action t i f).eps d)) ((base_action t i f).raise d) (word_raise (map (base_action t i) fs) ds)
-    h (λ e made. raised_below t i f d e c index (and_left _ _ had) h.0 made)
-    (λ v made. raise_digits t i fs ds v c index (and_right (has_factor t.kind f) _ had) h.1 made) is
-
-pub lower_keeps : (s : SpaceType) (i : ℕ) (w u : List ℕ) → IsSpace s → HasIndex s.cartan i → IsWord s w → (action s i).lower w ≡ Some u → IsWord s u
+pub lower_keeps : (s : SpaceType) (i : ℕ) (w u : List ℕ) → HasFactors s → HasIndex s.cartan i → IsWord s w → (action s i).lower w ≡ Some u → IsWord s u
 unfolding action
-lower_keeps s i w u space index h is = lower_digits s.cartan i s.factors w u space.cartan index space.had h is
+lower_keeps s i w u factors index h is =
+    step_digits lowering s.cartan i s.factors w u (λ f d e had below made. lowered_below s.cartan i f d e factors.cartan index had below made)
+    factors.had h (lowered_step s.order (actions s i) w u is)
 
-pub raise_keeps : (s : SpaceType) (i : ℕ) (w u : List ℕ) → IsSpace s → HasIndex s.cartan i → IsWord s w → (action s i).raise w ≡ Some u → IsWord s u
+pub raise_keeps : (s : SpaceType) (i : ℕ) (w u : List ℕ) → HasFactors s → HasIndex s.cartan i → IsWord s w → (action s i).raise w ≡ Some u → IsWord s u
 unfolding action
-raise_keeps s i w u space index h is = raise_digits s.cartan i s.factors w u space.cartan index space.had h is
+raise_keeps s i w u factors index h is =
+    step_digits raising s.cartan i s.factors w u (λ f d e had below made. raised_below s.cartan i f d e factors.cartan index had below made)
+    factors.had h (raised_step s.order (actions s i) w u is)
 
-pub acted_keeps : (s : SpaceType) (a : Arrow) (w u : List ℕ) → IsSpace s → IsArrow s a → IsWord s w → acted s a w ≡ Some u → IsWord s u
-acted_keeps s a w u space arrow h is = either a.down is
+pub operators_keep_words : OperatorsKeepWords
+operators_keep_words s a u w factors arrow h is = either a.down is
   where
     either : (down : Bool) → step_of down (action s a.index) w ≡ Some u → IsWord s u
-    either true made = lower_keeps s a.index w u space arrow.index h made
-    either false made = raise_keeps s a.index w u space arrow.index h made
+    either true made = lower_keeps s a.index w u factors arrow.index h made
+    either false made = raise_keeps s a.index w u factors arrow.index h made
+
+pub acted_keeps : (s : SpaceType) (a : Arrow) (w u : List ℕ) → IsSpace s → IsArrow s a → IsWord s w → acted s a w ≡ Some u → IsWord s u
+acted_keeps s a w u space arrow h is = operators_keep_words s a u w (record { cartan = space.cartan; had = space.had }) arrow h is
 
 -- the operator on codes leads to codes of words
 pub op_below : (s : SpaceType) (a : Arrow) (c y : ℕ) → IsSpace s → IsArrow s a → c < size s → op s a c ≡ Some y → y < size s

@@ -1,30 +1,20 @@
 -- Raising lowers the code and the sum of the digits.
-use Rattle.std.proofs.Common.{◌≡◌, refl, ℕ, ◌+◌, ◌-◌, ◌*◌, ◌≤◌, ◌<◌, nat_lt, Bool, true, false, ◌&&◌, IsTrue, List, [], ◌∷◌, length, map, pow_mono, Some, inl, inr, arith}
+use Rattle.std.proofs.Common.{◌≡◌, ℕ, ◌+◌, ◌-◌, ◌*◌, ◌≤◌, ◌<◌, IsTrue, List, [], ◌∷◌, length, map, pow_mono, Some, inl, inr, arith}
 use Rattle.std.specs.List.{list_all}
 use Rattle.std.proofs.Math.Nat.{mul-le-mul_right}
 use Rattle.crystal_cartan.specs.Types.{CartanType, IsCartan, HasIndex}
-use Rattle.crystal_cartan.specs.Crystals.{Action}
 use Rattle.crystal_cartan.specs.declared.types.Kind.{Kind}
 use Rattle.crystal_cartan.specs.declared.types.Kind.TheVariants.{A, B, C, D}
 use Rattle.vector_crystals.specs.Letters.{letter_count_of}
+pub use Rattle.vector_crystals.proofs.Tables.{and_left as both_left, and_right as both_right}
 use Rattle.tensor_words.specs.declared.spaces.Factor.{Factor}
 use Rattle.tensor_words.specs.declared.spaces.Factor.TheVariants.{Vector, Spin, SpinPlus, SpinMinus}
 use Rattle.tensor_words.specs.Spaces.{SpaceType, HasFactors, IsSpace, has_factor, base_size, base_action, product}
 use Rattle.tensor_words.specs.Codes.{AreDigits, IsWord, code, code_of}
-use Rattle.tensor_words.specs.TensorRule.{word_phi, word_raise, action}
-use Rattle.tensor_words.specs.Operators.{OperatorsKeepWords}
+use Rattle.tensor_words.specs.TensorRule.{actions, action}
 use Rattle.tensor_words.proofs.BaseLaws.{IsLawfulDigit, digit_laws}
 use Rattle.tensor_words.proofs.Digits.{code_in_range}
-use Rattle.tensor_words.proofs.Keeps.{acted_keeps}
-use Rattle.tensor_words.proofs.WordLaws.{first_step}
-
-pub both_left : (a b : Bool) → IsTrue (a && b) → IsTrue a
-both_left true b h = refl
-both_left false b h = h
-
-pub both_right : (a b : Bool) → IsTrue (a && b) → IsTrue b
-both_right true b h = h
-both_right false b h = cc
+use Rattle.tensor_words.proofs.FactorSteps.{IsFactorStep, raising, raised_step}
 
 pub factors_of_space : (s : SpaceType) → IsSpace s → HasFactors s
 factors_of_space s space = record { cartan = space.cartan; had = space.had }
@@ -51,37 +41,33 @@ pub record IsRaised (bs w v : List ℕ) : Type 0 where
 
 pub raised_word : (t : CartanType) (i : ℕ) (fs : List Factor) (w v : List ℕ) → IsCartan t → HasIndex t i
     → IsTrue (list_all (has_factor t.kind) fs) → AreDigits (map (base_size t) fs) w
-    → word_raise (map (base_action t i) fs) w ≡ Some v → IsRaised (map (base_size t) fs) w v
-raised_word t i [] w v c index had digits h = cc
+    → IsFactorStep raising (map (base_action t i) fs) w v → IsRaised (map (base_size t) fs) w v
+raised_word t i [] w v c index had digits h = absurd h
 raised_word t i (f ∷ fs) [] v c index had digits h = absurd digits
 raised_word t i (f ∷ fs) (x ∷ w) v c index had digits h =
-    let acts : List (Action ℕ) = map (base_action t i) fs in
     let bs : List ℕ = map (base_size t) fs in
     let below : code bs w < product bs = code_in_range bs w digits.1 in
-    elim (first_step (nat_lt (word_phi acts w) ((base_action t i f).eps x)) ((base_action t i f).raise x) (word_raise acts w) x w v h) [
-      | inl (z, b, l, e) ↦
+    elim h [
+      | inl (z, l, e) ↦
           let low : x < base_size t f = digits.0 in
           let falls : z < x = (first_digit_laws t i f fs x c index had digits.0).raise_falls z l in
           let rows : (z + 1) * product bs ≤ x * product bs = mul-le-mul_right (product bs) (omega arith) in
           rw e (record { digits = (omega arith, digits.1); code = omega (arith, rows); sum = omega arith })
-      | inr (z, b, l, e) ↦
+      | inr (z, l, e) ↦
           let rest : IsRaised bs w z = raised_word t i fs w z c index (other_factors t f fs had) digits.1 l in
           rw e (record { digits = (digits.0, rest.digits); code = omega (arith, rest.code); sum = omega (arith, rest.sum) })
     ]
-
-pub operators_keep_words : OperatorsKeepWords
-operators_keep_words s a v w space arrow is h = acted_keeps s a w v space arrow is h
 
 -- the measures of raising again and again
 pub raise_lowers_code : (s : SpaceType) (i : ℕ) (v w : List ℕ) → HasFactors s → HasIndex s.cartan i → IsWord s w
     → (action s i).raise w ≡ Some v → code_of s v < code_of s w
 unfolding action code_of
-raise_lowers_code s i v w had index is h = (raised_word s.cartan i s.factors w v had.cartan index had.had is h).code
+raise_lowers_code s i v w had index is h = (raised_word s.cartan i s.factors w v had.cartan index had.had is (raised_step s.order (actions s i) w v h)).code
 
 pub raise_lowers_sum : (s : SpaceType) (i : ℕ) (v w : List ℕ) → HasFactors s → HasIndex s.cartan i → IsWord s w
     → (action s i).raise w ≡ Some v → digit_sum v < digit_sum w
 unfolding action
-raise_lowers_sum s i v w had index is h = (raised_word s.cartan i s.factors w v had.cartan index had.had is h).sum
+raise_lowers_sum s i v w had index is h = (raised_word s.cartan i s.factors w v had.cartan index had.had is (raised_step s.order (actions s i) w v h)).sum
 
 base_few : (t : CartanType) (f : Factor) → IsCartan t → base_size t f ≤ 256
 unfolding base_size

@@ -5,10 +5,10 @@ use Rattle.std.proofs.lemmas.Int.{ints}
 use Rattle.std.proofs.lemmas.List.{drop_more, drop_all, get_or-map, length-map}
 use Rattle.std.proofs.lemmas.List.FromFn.{get_or-range_with_len}
 use Rattle.crystal_cartan.specs.Types.{coordinates}
-use Rattle.crystal_cartan.specs.Weights.{weight_from, coordinate, zero_weight, sum_of, IsWeight, IsSmall}
+use Rattle.crystal_cartan.specs.Weights.{weight_from, coordinate, zero_weight, sum_of, IsWeight, IsSmall, IsWithin}
 use Rattle.crystal_cartan.proofs.Coordinates.{length-weight_from}
 use Rattle.tensor_words.specs.declared.spaces.Factor.TheVariants.{Vector}
-use Rattle.tensor_words.specs.Spaces.{SpaceType, base_weight, factor_at, weight_along, word_weight, IsWithin}
+use Rattle.tensor_words.specs.Spaces.{SpaceType, base_weight, factor_at, weight_along, word_weight}
 use Rattle.tensor_words.specs.Codes.{IsWord}
 use Rattle.tensor_words.proofs.SpaceWords.{length_word}
 

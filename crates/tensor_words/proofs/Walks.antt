@@ -7,7 +7,7 @@ use Rattle.tensor_words.specs.Codes.{IsWord, code_of, word_of}
 use Rattle.tensor_words.specs.Operators.{acted, op}
 use Rattle.tensor_words.specs.Reach.{walk, word_walk, WalksAgree, ComponentListIsUnique}
 use Rattle.tensor_words.proofs.CodeLaws.{codes_correspond}
-use Rattle.tensor_words.proofs.KeptWords.{operators_keep_words}
+use Rattle.tensor_words.proofs.Keeps.{operators_keep_words}
 
 pub walks_agree : WalksAgree
 unfolding walk word_walk op

@@ -1,7 +1,6 @@
 -- Weights of words: sums, their pairings, and the laws of a seminormal crystal on words.
-use Rattle.std.proofs.Common.{◌≡◌, ◌∙◌, sym, refl, ℕ, ◌+◌, ◌-◌, ◌≤◌, ◌<◌, nat_le, nat_lt, if◌then◌else◌, Bool, true, false, IsTrue, List, [], ◌∷◌, map, length, Some, None, ℤ, pos, ◌+ℤ◌, ◌-ℤ◌, inl, inr, arith}
+use Rattle.std.proofs.Common.{◌≡◌, ◌∙◌, sym, refl, ℕ, ◌+◌, ◌-◌, ◌≤◌, ◌<◌, nat_lt, if◌then◌else◌, Bool, true, false, IsTrue, List, [], ◌∷◌, map, length, ℤ, pos, ◌+ℤ◌, ◌-ℤ◌, inl, inr, arith}
 use Rattle.std.specs.List.{list_all}
-use Rattle.std.specs.Option.{option_map}
 use Rattle.std.proofs.lemmas.Bool.Decides.{nat_tests}
 use Rattle.std.proofs.lemmas.Int.{ints}
 use Rattle.crystal_cartan.specs.Types.{CartanType, IsCartan, HasIndex, coordinates, coordinates_of, least_rank}
@@ -12,13 +11,16 @@ use Rattle.crystal_cartan.specs.declared.types.Kind.{Kind}
 use Rattle.crystal_cartan.specs.declared.types.Kind.TheVariants.{A, B, C, D}
 use Rattle.crystal_cartan.proofs.Coordinates.{length-weight_from, coordinate-weight_from, weight_by_coordinates}
 use Rattle.tensor_words.specs.declared.spaces.Factor.{Factor}
+use Rattle.tensor_words.specs.declared.spaces.Order.{Order}
+use Rattle.tensor_words.specs.declared.spaces.Order.TheVariants.{Standard, Kashiwara}
 use Rattle.tensor_words.specs.Spaces.{SpaceType, HasFactors, has_factor, base_size, base_action, base_weight, weight_along, word_weight}
 use Rattle.tensor_words.specs.Codes.{AreDigits, IsWord}
-use Rattle.tensor_words.specs.TensorRule.{word_phi, word_eps, word_lower, action}
-use Rattle.tensor_words.specs.Operators.{OneFactorRule}
-use Rattle.tensor_words.proofs.BaseLaws.{digit_laws}
+use Rattle.tensor_words.specs.TensorRule.{actions, action_in, action}
+use Rattle.tensor_words.proofs.BaseLaws.{IsLawfulDigit, digit_laws}
 use Rattle.tensor_words.proofs.KeptWords.{first_digit_laws, other_factors}
-use Rattle.tensor_words.proofs.WordLaws.{AreSteady, word_steady, first_step}
+use Rattle.tensor_words.proofs.FactorSteps.{IsFactorStep, lowering, lowered_step}
+use Rattle.tensor_words.proofs.Turned.{action_steady}
+use Rattle.tensor_words.proofs.WordLaws.{IsSteady, AreSteady}
 
 sum_at : (v w : List ℤ) (j : ℕ) → 1 ≤ j → j ≤ length v → coordinate (sum_of v w) j ≡ coordinate v j +ℤ coordinate w j
 sum_at v w j low high = coordinate-weight_from (length v) (λ k. coordinate v k +ℤ coordinate w k) j low high
@@ -110,6 +112,31 @@ pairing_zero t i c index =
         let low : 1 ≤ i = index.low in
         omega (arith, ints, zero_at t i low (omega arith), zero_at t (i + 1) (omega arith) (omega arith))
 
+-- the difference of the two lengths adds up over the factors
+differences : {E : Type 0} (o : Order) (act : Action E) (acts : List (Action E)) (x : E) (w : List E)
+    → pos ((action_in o (act ∷ acts)).phi (x ∷ w)) -ℤ pos ((action_in o (act ∷ acts)).eps (x ∷ w))
+    ≡ (pos (act.phi x) -ℤ pos (act.eps x)) +ℤ (pos ((action_in o acts).phi w) -ℤ pos ((action_in o acts).eps w))
+differences Standard act acts x w = omega (arith, ints)
+differences Kashiwara act acts x w = omega (arith, ints)
+
+ends_balanced : (o : Order) → pos ((action_in {E = ℕ} o []).phi []) -ℤ pos ((action_in {E = ℕ} o []).eps []) ≡ pos 0
+ends_balanced Standard = refl
+ends_balanced Kashiwara = refl
+
+steady_from : (t : CartanType) (i : ℕ) (f : Factor) (d : ℕ) → IsLawfulDigit t i f d → IsSteady (base_action t i f) d
+steady_from t i f d laws = record {
+  raised_back = laws.seminormal.raised_back;
+  lowered_back = laws.seminormal.lowered_back;
+  lower_ends = laws.seminormal.lower_ends;
+  raise_ends = laws.seminormal.raise_ends;
+  lower_counts = laws.seminormal.lower_counts;
+  raise_counts = laws.seminormal.raise_counts;
+}
+
+pub digit_steady : (t : CartanType) (i : ℕ) (f : Factor) (d : ℕ) → IsCartan t → HasIndex t i → IsTrue (has_factor t.kind f) → d < base_size t f
+    → IsSteady (base_action t i f) d
+digit_steady t i f d c index had below = steady_from t i f d (digit_laws t i f d c index had below)
+
 module _ (t : CartanType) (i : ℕ) (c : IsCartan t) (index : HasIndex t i) where
   abbrev acts_of : List Factor → List (Action ℕ)
   acts_of fs = map (base_action t i) fs
@@ -122,45 +149,35 @@ module _ (t : CartanType) (i : ℕ) (c : IsCartan t) (index : HasIndex t i) wher
   length-weight_along (f ∷ fs) (x ∷ w) had digits =
       length-sum (base_weight t f x) (weight_along t fs w) ∙ (first_digit_laws t i f fs x c index had digits.0).size
 
-  along_steady : (fs : List Factor) (w : List ℕ) → IsTrue (list_all (has_factor t.kind) fs) → AreDigits (map (base_size t) fs) w → AreSteady (acts_of fs) w
+  pub along_steady : (fs : List Factor) (w : List ℕ) → IsTrue (list_all (has_factor t.kind) fs) → AreDigits (map (base_size t) fs) w → AreSteady (acts_of fs) w
   along_steady [] [] had digits = tt
   along_steady [] (x ∷ w) had digits = absurd digits
   along_steady (f ∷ fs) [] had digits = absurd digits
   along_steady (f ∷ fs) (x ∷ w) had digits =
-      let laws = (first_digit_laws t i f fs x c index had digits.0).seminormal in (
-        record {
-          raised_back = laws.raised_back;
-          lowered_back = laws.lowered_back;
-          lower_ends = laws.lower_ends;
-          raise_ends = laws.raise_ends;
-          lower_counts = laws.lower_counts;
-          raise_counts = laws.raise_counts;
-        },
-        along_steady fs w (other_factors t f fs had) digits.1,
-      )
+      (steady_from t i f x (first_digit_laws t i f fs x c index had digits.0), along_steady fs w (other_factors t f fs had) digits.1)
 
-  along_balanced : (fs : List Factor) (w : List ℕ) → IsTrue (list_all (has_factor t.kind) fs) → AreDigits (map (base_size t) fs) w
-      → IsPairing t (weight_along t fs w) i (pos (word_phi (acts_of fs) w) -ℤ pos (word_eps (acts_of fs) w))
-  along_balanced [] [] had digits = sym (pairing_zero t i c index)
-  along_balanced [] (x ∷ w) had digits = absurd digits
-  along_balanced (f ∷ fs) [] had digits = absurd digits
-  along_balanced (f ∷ fs) (x ∷ w) had digits =
+  along_balanced : (o : Order) (fs : List Factor) (w : List ℕ) → IsTrue (list_all (has_factor t.kind) fs) → AreDigits (map (base_size t) fs) w
+      → IsPairing t (weight_along t fs w) i (pos ((action_in o (acts_of fs)).phi w) -ℤ pos ((action_in o (acts_of fs)).eps w))
+  along_balanced o [] [] had digits = rw (ends_balanced o) (sym (pairing_zero t i c index))
+  along_balanced o [] (x ∷ w) had digits = absurd digits
+  along_balanced o (f ∷ fs) [] had digits = absurd digits
+  along_balanced o (f ∷ fs) (x ∷ w) had digits =
       let laws = first_digit_laws t i f fs x c index had digits.0 in
       let first = laws.seminormal.balanced in
-      let others = along_balanced fs w (other_factors t f fs had) digits.1 in
-      omega (arith, ints, first, others, pairing_sum t (base_weight t f x) (weight_along t fs w) i c index laws.size)
+      let others = along_balanced o fs w (other_factors t f fs had) digits.1 in
+      omega (arith, ints, first, others, differences o (base_action t i f) (acts_of fs) x w, pairing_sum t (base_weight t f x) (weight_along t fs w) i c index laws.size)
 
   along_falls : (fs : List Factor) (w v : List ℕ) → IsTrue (list_all (has_factor t.kind) fs) → AreDigits (map (base_size t) fs) w
-      → word_lower (acts_of fs) w ≡ Some v → weight_along t fs v ≡ difference_of (weight_along t fs w) (root t i)
-  along_falls [] w v had digits h = cc
+      → IsFactorStep lowering (acts_of fs) w v → weight_along t fs v ≡ difference_of (weight_along t fs w) (root t i)
+  along_falls [] w v had digits h = absurd h
   along_falls (f ∷ fs) [] v had digits h = absurd digits
   along_falls (f ∷ fs) (x ∷ w) v had digits h =
       let laws = first_digit_laws t i f fs x c index had digits.0 in
       let later = other_factors t f fs had in
-      elim (first_step (nat_le (word_phi (acts_of fs) w) ((base_action t i f).eps x)) ((base_action t i f).lower x) (word_lower (acts_of fs) w) x w v h) [
-        | inl (z, b, l, e) ↦
+      elim h [
+        | inl (z, l, e) ↦
             rw (e, laws.seminormal.weight_falls z l) (difference_first (base_weight t f x) (root t i) (weight_along t fs w))
-        | inr (z, b, l, e) ↦
+        | inr (z, l, e) ↦
             rw (e, along_falls fs w z later digits.1 l)
             (difference_second (base_weight t f x) (weight_along t fs w) (root t i) (laws.size ∙ sym (length-weight_along fs w later digits.1)))
       ]
@@ -169,7 +186,7 @@ pub seminormal_word : (s : SpaceType) (i : ℕ) (w : List ℕ) → HasFactors s 
     → IsSeminormal s.cartan i (action s i) (word_weight s) w
 unfolding action word_weight
 seminormal_word s i w factors index digits =
-    let steady = word_steady (map (base_action s.cartan i) s.factors) w (along_steady s.cartan i factors.cartan index s.factors w factors.had digits) in
+    let steady = action_steady s.order (actions s i) w (along_steady s.cartan i factors.cartan index s.factors w factors.had digits) in
     record {
       raised_back = steady.raised_back;
       lowered_back = steady.lowered_back;
@@ -177,28 +194,6 @@ seminormal_word s i w factors index digits =
       raise_ends = steady.raise_ends;
       lower_counts = steady.lower_counts;
       raise_counts = steady.raise_counts;
-      balanced = along_balanced s.cartan i factors.cartan index s.factors w factors.had digits;
-      weight_falls = λ v h. along_falls s.cartan i factors.cartan index s.factors w v factors.had digits h;
+      balanced = along_balanced s.cartan i factors.cartan index s.order s.factors w factors.had digits;
+      weight_falls = λ v h. along_falls s.cartan i factors.cartan index s.factors w v factors.had digits (lowered_step s.order (actions s i) w v h);
     }
-
-pub one_factor_rule : OneFactorRule
-unfolding action
-one_factor_rule t i f d c index had below = record {
-  eps = omega arith;
-  phi = omega arith;
-  lower = rw least refl;
-  raise = raised (nat_lt 0 (act.eps d)) refl;
-}
-  where
-    act : Action ℕ
-    act = base_action t i f
-
-    least : nat_le 0 (act.eps d) ≡ true
-    least = grind (arith, nat_tests)
-
-    raised : (b : Bool) → nat_lt 0 (act.eps d) ≡ b
-        → (if b then option_map (λ z. z ∷ []) (act.raise d) else option_map (λ (z : List ℕ). d ∷ z) None) ≡ option_map (λ x. x ∷ []) (act.raise d)
-    raised true is = refl
-    raised false is =
-        let none : act.raise d ≡ None = (digit_laws t i f d c index had below).seminormal.raise_ends.1 (grind (arith, nat_tests)) in
-        rw none refl

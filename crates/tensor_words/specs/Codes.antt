@@ -1,6 +1,6 @@
 -- Codes of words: the digits read in mixed radix, the first factor most significant.
 use Rattle.std.specs.Prelude.{ℕ, ◌+◌, ◌*◌, ◌/◌, ◌%◌, ◌<◌, ◌≡◌, ◌==◌, ◌↔◌, ◌&&◌, ◌||◌, nat_lt, Bool, false, IsTrue, ⊤, List, [], ◌∷◌}
-use Rattle.tensor_words.specs.Spaces.{SpaceType, IsSpace, sizes, size, product}
+use Rattle.tensor_words.specs.Spaces.{SpaceType, HasFactors, sizes, size, product}
 
 -- the digits are those of a word: one below each size
 abbrev pub AreDigits : List ℕ → List ℕ → Type 0
@@ -36,7 +36,7 @@ word_of s c = word (sizes s) c
 -- words and the numbers below the size correspond one to one
 abbrev pub CodesCorrespond : Type 0
 CodesCorrespond =
-    (s : SpaceType) → IsSpace s →
+    (s : SpaceType) → HasFactors s →
     ((c : ℕ) → c < size s → IsWord s (word_of s c) × (code_of s (word_of s c) ≡ c))
     × ((w : List ℕ) → IsWord s w → (code_of s w < size s) × (word_of s (code_of s w) ≡ w))
 
@@ -49,5 +49,5 @@ is_before (d ∷ ds) (e ∷ es) = nat_lt d e || ((d == e) && is_before ds es)
 -- ascending codes are the lexicographic order of words
 abbrev pub CodesAreLexicographic : Type 0
 CodesAreLexicographic =
-    (s : SpaceType) (v w : List ℕ) → IsSpace s → IsWord s v → IsWord s w →
+    (s : SpaceType) (v w : List ℕ) → HasFactors s → IsWord s v → IsWord s w →
     (code_of s v < code_of s w) ↔ IsTrue (is_before v w)

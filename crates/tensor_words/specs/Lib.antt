@@ -1,8 +1,11 @@
 pub mod Spaces
 pub mod Codes
+pub mod Steps
+pub mod Tables
 pub mod TensorRule
 pub mod Operators
 pub mod Worlds
 pub mod Reach
 pub mod SpaceFields
 pub mod WordFields
+pub mod Laws

@@ -4,7 +4,7 @@ use Rattle.std.specs.List.{IsDistinct}
 use Rattle.std.specs.List.Sorted.{IsStrictlyIncreasing}
 use Rattle.std.specs.Option.{option_map, option_and_then}
 use Rattle.crystal_cartan.specs.declared.types.Arrow.{Arrow}
-use Rattle.tensor_words.specs.Spaces.{SpaceType, IsSpace, size}
+use Rattle.tensor_words.specs.Spaces.{SpaceType, HasFactors, size}
 use Rattle.tensor_words.specs.Codes.{word_of}
 use Rattle.tensor_words.specs.Operators.{IsArrow, acted, op}
 use Rattle.tensor_words.specs.Worlds.{WorldType}
@@ -54,7 +54,7 @@ pub record Outnumber (w : WorldType) : Type 0 where
 -- the walk over codes is the walk over their words
 abbrev pub WalksAgree : Type 0
 WalksAgree =
-    (s : SpaceType) (path : List Arrow) (c : ℕ) → IsSpace s → IsPath s path → c < size s →
+    (s : SpaceType) (path : List Arrow) (c : ℕ) → HasFactors s → IsPath s path → c < size s →
     word_walk s path (word_of s c) ≡ option_map (word_of s) (walk s path c)
 
 -- there is at most one component list

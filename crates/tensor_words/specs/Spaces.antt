@@ -1,9 +1,10 @@
 -- Tensor products of base crystals: their factors, sizes and what is taken.
-use Rattle.std.specs.Prelude.{ℕ, ◌+◌, ◌*◌, ◌^◌, ◌<◌, ◌≤◌, ◌==◌, nat_lt, IsTrue, Bool, true, if◌then◌else◌, List, [], ◌∷◌, map, length, slice_index_or, Option, Some, None, Result, Ok, Err, ℤ, pos, neg_ℤ, ◌≤ℤ◌}
+use Rattle.std.specs.Prelude.{ℕ, ◌+◌, ◌*◌, ◌^◌, ◌<◌, ◌≤◌, ◌==◌, nat_lt, IsTrue, Bool, true, if◌then◌else◌, List, [], ◌∷◌, map, length, slice_index_or, Option, Some, None, Result, Ok, Err, ℤ}
 use Rattle.std.specs.List.{list_all}
 use Rattle.crystal_cartan.specs.Types.{CartanType, IsCartan}
 use Rattle.crystal_cartan.specs.Crystals.{Action}
 use Rattle.crystal_cartan.specs.Weights.{zero_weight, sum_of}
+pub use Rattle.crystal_cartan.specs.Weights.{IsWithin}
 use Rattle.crystal_cartan.specs.declared.types.Kind.{Kind}
 use Rattle.vector_crystals.specs.Letters.{letter_count, letter_at}
 use Rattle.vector_crystals.specs.VectorCrystals.{digit_action, letter_weight}
@@ -12,6 +13,8 @@ use Rattle.spin_crystals.specs.SpinCrystals.{spin_digit_action, signs_weight}
 use Rattle.spin_crystals.specs.declared.signs.Half.TheVariants.{Whole, Plus, Minus}
 use Rattle.tensor_words.specs.declared.spaces.Factor.{Factor}
 use Rattle.tensor_words.specs.declared.spaces.Factor.TheVariants.{Vector, Spin, SpinPlus, SpinMinus}
+use Rattle.tensor_words.specs.declared.spaces.Order.{Order}
+use Rattle.tensor_words.specs.declared.spaces.Order.TheVariants.{Standard}
 use Rattle.tensor_words.specs.declared.spaces.SpaceFault.{SpaceFault}
 use Rattle.tensor_words.specs.declared.spaces.SpaceFault.TheVariants.{NoFactor, TooManyFactors, WrongFactor, TooWide}
 
@@ -19,10 +22,15 @@ use Rattle.tensor_words.specs.declared.spaces.SpaceFault.TheVariants.{NoFactor, 
 pub record SpaceType : Type 0 where
   pub cartan : CartanType
   pub factors : List Factor
+  pub order : Order
 
--- the tensor product of these factors; contracts make a space by this word alone
+-- the tensor product of these factors, in the standard order; contracts make a space by this word and the next alone
 abbrev pub tensor_space : CartanType → List Factor → SpaceType
-tensor_space t fs = record { cartan = t; factors = fs }
+tensor_space t fs = record { cartan = t; factors = fs; order = Standard }
+
+-- the same tensor product in this order
+abbrev pub ordered : Order → SpaceType → SpaceType
+ordered o s = record { cartan = s.cartan; factors = s.factors; order = o }
 
 -- whether the kind has this factor
 abbrev pub has_factor : Kind → Factor → Bool
@@ -99,10 +107,6 @@ space_of t fs =
     else if nat_lt 40 (length fs) then Err TooManyFactors
     else wrong_factor_or (wrong_place t.kind 1 fs)
     (if nat_lt (2 ^ 63) (product (map (base_size t) fs)) then Err TooWide else Ok (tensor_space t fs))
-
--- a doubled coordinate between -n and n
-abbrev pub IsWithin : ℕ → ℤ → Type 0
-IsWithin n x = (neg_ℤ (pos n) ≤ℤ x) × (x ≤ℤ pos n)
 
 -- the weight of a word: the sum of the weights of its elements
 abbrev pub weight_along : CartanType → List Factor → List ℕ → List ℤ

@@ -1,8 +1,7 @@
 //! Elements of the base crystals, by their digits.
 ghost use Rattle.std.specs.Prelude.{◌≡◌, ℕ, ◌≤◌, ◌<◌, IsTrue, IfSome, All};
 ghost use Rattle.crystal_cartan.specs.Types.{HasIndex};
-ghost use Rattle.crystal_cartan.specs.Weights.{IsWeight};
-ghost use Rattle.tensor_words.specs.Spaces.{IsWithin};
+ghost use Rattle.crystal_cartan.specs.Weights.{IsWeight, IsWithin};
 ghost use Rattle.vector_crystals.specs.Letters.{IsLetter, letter_count, letter_at};
 ghost use Rattle.vector_crystals.specs.VectorCrystals.{digit_action, letter_weight};
 ghost use Rattle.spin_crystals.specs.Signs.{HasHalf, HasSpin, IsSigns, half_size, is_of_half, signs_at, vector_of};

@@ -10,7 +10,7 @@ use crate::elements::{
     letter_eps, letter_lower, letter_phi, letter_raise, signs_eps, signs_lower, signs_phi,
     signs_raise,
 };
-use crate::spaces::{Factor, Space};
+use crate::spaces::{Factor, Order, Space};
 use crate::words::Word;
 use spin_crystals::Half;
 
@@ -89,8 +89,7 @@ impl Space {
 }
 
 impl Space {
-    /// f_i on a word, `None` for zero, by recursion on the first factor and the rest (Bump and Schilling, Crystal
-    /// Bases, 2017, section 2.3).
+    /// f_i on a word, `None` for zero, by recursion on the first factor and the rest, in the order of the space.
     #[tactic(auto, unfolding(crate::specs::TensorRule::action))]
     pub fn by_rule_lower(&self, word: &Word, i: u8) -> Option<Word>
         requires word { IsWord self.now word.now }
@@ -98,11 +97,13 @@ impl Space {
         ensures value { result ≡ (action self.now i).lower word.now }
         ensures word { IfSome result (IsWord self.now) }
     {
-        self.lower_from(word, 0, i)
+        match self.order() {
+            Order::Standard => self.lower_from(word, 0, i),
+            Order::Kashiwara => self.kashiwara_lower_from(word, 0, i),
+        }
     }
 
-    /// e_i on a word, `None` for zero, by recursion on the first factor and the rest (Bump and Schilling, Crystal
-    /// Bases, 2017, section 2.3).
+    /// e_i on a word, `None` for zero, by recursion on the first factor and the rest, in the order of the space.
     #[tactic(auto, unfolding(crate::specs::TensorRule::action))]
     pub fn by_rule_raise(&self, word: &Word, i: u8) -> Option<Word>
         requires word { IsWord self.now word.now }
@@ -110,10 +111,14 @@ impl Space {
         ensures value { result ≡ (action self.now i).raise word.now }
         ensures word { IfSome result (IsWord self.now) }
     {
-        self.raise_from(word, 0, i)
+        match self.order() {
+            Order::Standard => self.raise_from(word, 0, i),
+            Order::Kashiwara => self.kashiwara_raise_from(word, 0, i),
+        }
     }
 
-    /// How often e_i can be applied to a word, by recursion on the first factor and the rest.
+    /// How often e_i can be applied to a word, by recursion on the first factor and the rest, in the order of the
+    /// space.
     #[tactic(auto, unfolding(crate::specs::TensorRule::action))]
     pub fn by_rule_eps(&self, word: &Word, i: u8) -> u32
         requires word { IsWord self.now word.now }
@@ -122,10 +127,14 @@ impl Space {
         ensures small { result ≤ 80 }
     {
         let _count = self.count();
-        self.eps_from(word, 0, i)
+        match self.order() {
+            Order::Standard => self.eps_from(word, 0, i),
+            Order::Kashiwara => self.kashiwara_eps_from(word, 0, i),
+        }
     }
 
-    /// How often f_i can be applied to a word, by recursion on the first factor and the rest.
+    /// How often f_i can be applied to a word, by recursion on the first factor and the rest, in the order of the
+    /// space.
     #[tactic(auto, unfolding(crate::specs::TensorRule::action))]
     pub fn by_rule_phi(&self, word: &Word, i: u8) -> u32
         requires word { IsWord self.now word.now }
@@ -134,7 +143,10 @@ impl Space {
         ensures small { result ≤ 80 }
     {
         let _count = self.count();
-        self.phi_from(word, 0, i)
+        match self.order() {
+            Order::Standard => self.phi_from(word, 0, i),
+            Order::Kashiwara => self.kashiwara_phi_from(word, 0, i),
+        }
     }
 
     /// The digit of a word at this place, counted from 0, which is one of the factor there.
@@ -147,7 +159,7 @@ impl Space {
         word.digit(place)
     }
 
-    /// phi of the rest of the word from this place on.
+    /// phi of the rest of the word from this place on, in the standard order.
     fn phi_from(&self, word: &Word, place: u8, i: u8) -> u32
         requires word { IsWord self.now word.now }
         requires index { HasIndex self.now.cartan i }
@@ -163,7 +175,7 @@ impl Space {
         self.digit_phi(place, digit, i) + rest.saturating_sub(self.digit_eps(place, digit, i))
     }
 
-    /// eps of the rest of the word from this place on.
+    /// eps of the rest of the word from this place on, in the standard order.
     fn eps_from(&self, word: &Word, place: u8, i: u8) -> u32
         requires word { IsWord self.now word.now }
         requires index { HasIndex self.now.cartan i }
@@ -181,7 +193,7 @@ impl Space {
             .saturating_sub(self.phi_from(word, place + 1, i))
     }
 
-    /// The word with f_i applied to its rest from this place on.
+    /// The word with f_i applied to its rest from this place on, in the standard order.
     fn lower_from(&self, word: &Word, place: u8, i: u8) -> Option<Word>
         requires word { IsWord self.now word.now }
         requires index { HasIndex self.now.cartan i }
@@ -200,7 +212,7 @@ impl Space {
         self.lower_from(word, place + 1, i)
     }
 
-    /// The word with e_i applied to its rest from this place on.
+    /// The word with e_i applied to its rest from this place on, in the standard order.
     fn raise_from(&self, word: &Word, place: u8, i: u8) -> Option<Word>
         requires word { IsWord self.now word.now }
         requires index { HasIndex self.now.cartan i }

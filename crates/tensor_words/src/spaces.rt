@@ -3,7 +3,7 @@ ghost use Rattle.std.specs.Prelude.{◌≡◌, ℕ, ◌≤◌, ◌<◌, ◌^◌,
 ghost use Rattle.std.specs.List.{list_all};
 ghost use Rattle.crystal_cartan.specs.Types.{IsCartan};
 ghost use Rattle.crystal_cartan.specs.Padded.{padded};
-ghost use Rattle.tensor_words.specs.Spaces.{IsSpace, space_of, has_factor, base_size, product, wrong_place, size, factor_at, size_at};
+ghost use Rattle.tensor_words.specs.Spaces.{IsSpace, space_of, has_factor, base_size, product, wrong_place, size, factor_at, size_at, ordered};
 
 use crystal_cartan::{Cartan, Kind};
 use spin_crystals::Half;
@@ -24,6 +24,18 @@ pub enum Factor {
     SpinMinus,
 }
 
+/// The order in which the tensor product rule takes the two factors of x ⊗ y. The literature has both: a word in one
+/// of them behaves as the word read from right to left in the other.
+#[derive(Clone, Copy, Debug, PartialEq, Eq)]
+pub enum Order {
+    /// As in Bump and Schilling, Crystal Bases (2017), section 2.3: f(x ⊗ y) = f(x) ⊗ y if phi(y) ≤ eps(x), else
+    /// x ⊗ f(y).
+    Standard,
+    /// As in Kashiwara's papers (Hong and Kang, Introduction to Quantum Groups and Crystal Bases, 2002, section 4.4):
+    /// f(x ⊗ y) = x ⊗ f(y) if phi(x) ≤ eps(y), else f(x) ⊗ y.
+    Kashiwara,
+}
+
 /// Why a list of factors makes no space.
 #[derive(Clone, Copy, Debug, PartialEq, Eq)]
 pub enum SpaceFault {
@@ -37,12 +49,14 @@ pub enum SpaceFault {
     TooWide,
 }
 
-/// A tensor product of base crystals of one Cartan type: 1 to 40 factors, with at most 2^63 words.
+/// A tensor product of base crystals of one Cartan type, in one of the two tensor orders: 1 to 40 factors, with at
+/// most 2^63 words.
 #[derive(Clone, Copy, Debug, PartialEq, Eq)]
 pub struct Space {
     cartan: Cartan,
     factors: [Factor; 40],
     count: u8,
+    order: Order,
 }
 
 impl Model for Space {
@@ -50,14 +64,14 @@ impl Model for Space {
     ghost use Rattle.crystal_cartan.specs.Types.{IsCartan};
     ghost use Rattle.crystal_cartan.specs.Padded.{IsPadded};
     ghost use Rattle.tensor_words.specs.declared.spaces.Factor.TheVariants.{Vector};
-    ghost use Rattle.tensor_words.specs.Spaces.{SpaceType, IsSpace, tensor_space};
+    ghost use Rattle.tensor_words.specs.Spaces.{SpaceType, IsSpace, tensor_space, ordered};
     ghost use Rattle.tensor_words.specs.SpaceFields.{space_fields, space_fields-view};
 
     ghost Value = { SpaceType };
 
-    ghost view = { λ s. tensor_space s.cartan (take s.count s.factors) };
+    ghost view = { λ s. ordered s.order (tensor_space s.cartan (take s.count s.factors)) };
 
-    ghost invariant = { λ s. IsSpace (tensor_space s.cartan (take s.count s.factors)) × IsPadded Vector 40 s.count s.factors };
+    ghost invariant = { λ s. IsSpace (ordered s.order (tensor_space s.cartan (take s.count s.factors))) × IsPadded Vector 40 s.count s.factors };
 
     ghost inverse = { space_fields };
 
@@ -66,7 +80,7 @@ impl Model for Space {
 
 impl Space {
     #[tactic(auto, unfolding(crate::specs::Spaces::space_of))]
-    /// The tensor product of these factors, from left to right, or the first fault that applies.
+    /// The tensor product of these factors, from left to right, in the standard order, or the first fault that applies.
     pub fn new(cartan: Cartan, factors: &[Factor]) -> Result<Space, SpaceFault>
         ensures exact { result ≡ space_of cartan factors.now }
         ensures space { IfOk result IsSpace }
@@ -88,7 +102,22 @@ impl Space {
             cartan,
             factors: padded_factors(factors),
             count: factors.len() as u8,
+            order: Order::Standard,
         })
+    }
+
+    /// The same tensor product in this order.
+    pub fn ordered(self, order: Order) -> Space
+        ensures { result ≡ ordered order self }
+    {
+        Space { order, ..self }
+    }
+
+    /// The tensor order.
+    pub fn order(&self) -> Order
+        ensures { result ≡ self.now.order }
+    {
+        self.order
     }
 
     /// The Cartan type of the factors.

@@ -28,6 +28,8 @@ fn codes(rt: HostRuntime) {
     let a2 = made(Kind::A, 2, &[V, V, V]).expect(&rt, "A_2 has vectors");
     assert_eq!(rt; has_digits(&a2, 9, &[1, 0, 0]), Some(true));
     assert_eq!(rt; has_digits(&a2, 23, &[2, 1, 2]), Some(true));
+    assert_eq!(rt; has_digits(&a2, 26, &[2, 2, 2]), Some(true));
+    assert_eq!(rt; has_digits(&a2, 27, &[]), None);
     let c2 = made(Kind::C, 2, &[V, V]).expect(&rt, "C_2 has vectors");
     assert_eq!(rt; has_digits(&c2, 9, &[2, 1]), Some(true));
     assert_eq!(rt; has_digits(&c2, 14, &[3, 2]), Some(true));
@@ -78,6 +80,20 @@ fn operators(rt: HostRuntime) {
     assert_eq!(rt; strings(&a1, 0, 1), Some((Some(1), None, 2, 0)));
     assert_eq!(rt; strings(&a1, 1, 1), Some((Some(3), Some(0), 1, 1)));
     assert_eq!(rt; strings(&a1, 3, 1), Some((None, Some(1), 0, 2)));
+}
+
+/// The words of `operators` read from right to left.
+#[test]
+fn operators_in_the_other_order(rt: HostRuntime) {
+    let c2 = made(Kind::C, 2, &[V, V, V]).expect(&rt, "C_2 has vectors");
+    let c2 = c2.ordered(Order::Kashiwara);
+    assert_eq!(rt; c2.order(), Order::Kashiwara);
+    assert_eq!(rt; strings(&c2, 18, 1), Some((Some(22), Some(2), 2, 1)));
+    let a1 = made(Kind::A, 1, &[V, V]).expect(&rt, "A_1 has vectors");
+    assert_eq!(rt; a1.order(), Order::Standard);
+    let a1 = a1.ordered(Order::Kashiwara);
+    assert_eq!(rt; strings(&a1, 1, 1), Some((None, None, 0, 0)));
+    assert_eq!(rt; strings(&a1, 2, 1), Some((Some(3), Some(0), 1, 1)));
 }
 
 /// The first two coordinates of the weight of the word with this code.
@@ -135,6 +151,7 @@ fn faults_of_worlds(rt: HostRuntime) -> Result<(), AllocError> {
         (0, [4, 4], Some(WorldFault::CellsRange)),
         (1_048_577, [0, 1], Some(WorldFault::CellsRange)),
         (1, [3, 4], Some(WorldFault::NotAWord { place: 2 })),
+        (1, [4, 3], Some(WorldFault::NotAWord { place: 1 })),
         (1, [3, 3], Some(WorldFault::NotAscending { place: 2 })),
         (1_048_576, [0, 3], None),
     ] {

@@ -1,7 +1,7 @@
 //! Weights of words.
 ghost use Rattle.std.specs.Prelude.{◌≡◌, ℕ, ◌<◌, length, All};
-ghost use Rattle.crystal_cartan.specs.Weights.{IsWeight, IsSmall};
-ghost use Rattle.tensor_words.specs.Spaces.{factor_at, size_at, base_weight, word_weight, IsWithin};
+ghost use Rattle.crystal_cartan.specs.Weights.{IsWeight, IsSmall, IsWithin};
+ghost use Rattle.tensor_words.specs.Spaces.{factor_at, size_at, base_weight, word_weight};
 ghost use Rattle.tensor_words.specs.Codes.{IsWord};
 
 use crate::elements::{letter_weight, signs_weight};

@@ -1,5 +1,6 @@
 //! Words and their codes.
-ghost use Rattle.std.specs.Prelude.{◌≡◌, ℕ, ◌≤◌, ◌<◌, length, replicate, slice_index, slice_set, MatchOption, IfSome};
+ghost use Rattle.std.specs.Prelude.{◌≡◌, ℕ, ◌≤◌, ◌<◌, length, take, replicate, slice_index, slice_set, MatchOption, IfSome};
+ghost use Rattle.crystal_cartan.specs.Padded.{IsPadded};
 ghost use Rattle.tensor_words.specs.Spaces.{IsSpace, size, size_at};
 ghost use Rattle.tensor_words.specs.Codes.{IsWord, code_of, word_of};
 
@@ -44,6 +45,14 @@ impl Word {
         ensures { result ≡ slice_index self.now place }
     {
         self.digits[place as usize]
+    }
+
+    /// The word of the first `count` of these digits; those beyond are 0.
+    pub(crate) fn of_digits(digits: [u16; 40], count: u8) -> Word
+        requires { IsPadded 0 40 count digits }
+        ensures { result ≡ take count digits }
+    {
+        Word { digits, count }
     }
 
     fn zeros(count: u8) -> Word

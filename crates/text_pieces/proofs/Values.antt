@@ -8,7 +8,7 @@ use Rattle.std.proofs.lemmas.Option.{cond_some}
 use Rattle.std.proofs.lemmas.Str.Parse.{IsNumeralModel, numerals_by_fold}
 use Rattle.std.proofs.lemmas.Fmt.{decimal_is_IsNumeral, digits_value-decimal, length-decimal-le}
 use Rattle.std.proofs.Math.Nat.{mul-le-mul_right, mul_assoc, pow-succ', pow-le-pow_right}
-use Rattle.text_pieces.specs.Numbers.{value_from, is_number, number_of}
+use Rattle.text_pieces.specs.Numbers.{value_from, are_digits, number_of}
 
 -- digits are read one part after the other
 pub value_from-append : (number : ℕ) (xs ys : List ℕ) → value_from number (xs ++ ys) ≡ value_from (value_from number xs) ys
@@ -29,7 +29,7 @@ value_from_below number (digit ∷ digits) good =
 -- a number of at most nine digits is below 10 ^ 9
 pub number_below : (word : List ℕ) (number : ℕ) → number_of word ≡ Some number → number < 10 ^ 9
 number_below word number read =
-    let (good, same) = cond_some (is_number word) (value_from 0 word) number read in
+    let (good, same) = cond_some (are_digits 9 word) (value_from 0 word) number read in
     let (sized, digits) = and_parts (nat_le 1 (length word) && nat_le (length word) 9) (list_all is_ascii_digit word) good in
     let short : length word ≤ 9 = leb-true (length word) 9 (and_parts (nat_le 1 (length word)) (nat_le (length word) 9) sized).1 in
     let value = value_from_below 0 word digits in

@@ -1,5 +1,5 @@
 -- How a word is read as a decimal number.
-use Rattle.std.specs.Prelude.{ℕ, ◌+◌, ◌-◌, ◌*◌, ◌^◌, Bool, ◌&&◌, nat_le, nat_lt, if◌then◌else◌, List, [], ◌∷◌, length, Option, Some, None}
+use Rattle.std.specs.Prelude.{ℕ, ◌+◌, ◌-◌, ◌*◌, Bool, ◌&&◌, nat_le, if◌then◌else◌, List, [], ◌∷◌, length, Option, Some, None}
 use Rattle.std.specs.Char.{is_ascii_digit}
 use Rattle.std.specs.List.{list_all}
 
@@ -16,17 +16,9 @@ value_from number (byte ∷ bytes) = value_from (10 * number + (byte - 48)) byte
 abbrev pub read_digits : ℕ → List ℕ → Option ℕ
 read_digits most word = if are_digits most word then Some (value_from 0 word) else None
 
--- whether a word is a number: one to nine digits
-abbrev pub is_number : List ℕ → Bool
-is_number word = are_digits 9 word
-
--- the number that a word is
+-- the number that a word of one to nine digits is
 abbrev pub number_of : List ℕ → Option ℕ
-number_of word = if is_number word then Some (value_from 0 word) else None
-
--- the number that a word of one to ten digits is, below 2 ^ 32
-abbrev pub numeral_of : List ℕ → Option ℕ
-numeral_of word = if are_digits 10 word && nat_lt (value_from 0 word) (2 ^ 32) then Some (value_from 0 word) else None
+number_of word = read_digits 9 word
 
 -- a first element and the rest, where both are there
 abbrev pub both : {B : Type 0} → Option B → Option (List B) → Option (List B)

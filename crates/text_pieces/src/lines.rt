@@ -1,3 +1,4 @@
+//! Texts cut at a byte.
 ghost use Rattle.std.specs.Prelude.{◌≡◌, ◌∷◌, ◌<◌, length, ◌==◌, option_map, position, true, IfSome};
 ghost use Rattle.text_pieces.specs.Pieces.{are_printed, has_none, pieces, pieces_behind};
 

@@ -1,5 +1,6 @@
-ghost use Rattle.std.specs.Prelude.{◌≡◌, ◌≤◌, ◌<◌, ◌^◌, IfSome, length};
-ghost use Rattle.text_pieces.specs.Numbers.{read_digits, number_of, numeral_of};
+//! Words read as decimal numbers.
+ghost use Rattle.std.specs.Prelude.{◌≡◌, ◌≤◌, ◌<◌, ◌^◌, IfSome};
+ghost use Rattle.text_pieces.specs.Numbers.{read_digits, number_of};
 
 /// Reads a word of one to nine decimal digits, below 10^9. Zeros may stand in front; a sign may not.
 pub fn number_of(word: &[u8]) -> Option<u32>
@@ -10,16 +11,8 @@ pub fn number_of(word: &[u8]) -> Option<u32>
     Some(value as u32)
 }
 
-/// Reads a word of one to ten decimal digits whose value is below 2^32. Zeros may stand in front; a sign may not.
-pub fn numeral_of(word: &[u8]) -> Option<u32>
-    ensures { result ≡ numeral_of word.now }
-{
-    let value = read_digits(word, 10)?;
-    u32::try_from(value).ok()
-}
-
-/// The value of a word of one to `most` digits.
-fn read_digits(word: &[u8], most: usize) -> Option<u64>
+/// Reads a word of one to `most` decimal digits. Zeros may stand in front; a sign may not.
+pub fn read_digits(word: &[u8], most: usize) -> Option<u64>
     requires { most ≤ 10 }
     ensures value { result ≡ read_digits most word.now }
     ensures below { IfSome result (λ value. value < 10 ^ most) }

@@ -1,3 +1,4 @@
+//! The words of a line.
 ghost use Rattle.std.specs.Prelude.{◌≡◌, ◌∷◌, [], ◌<◌, ◌≤◌, drop, length, true, MatchOption, IfSome};
 ghost use Rattle.text_pieces.specs.Pieces.{at, is_word, words};
 

@@ -1,7 +1,13 @@
 //! The vector crystals of the classical types: their letters, operators, weights and digits.
 //!
-//! The definitions are those of Bump and Schilling, Crystal Bases (2017), chapter 2. The arrows are listed in
-//! `specs/VectorCrystals.antt` and the letters in `specs/Letters.antt`.
+//! **Promises.** The operators, string lengths and weights of letters are those of the lists of arrows in
+//! `specs/VectorCrystals.antt`, the file to read first (`arrows`, `letters`); a letter and its digit determine each
+//! other (`letters`); the laws of a seminormal crystal hold (`laws`).
+//!
+//! **Definitions** are those of Bump and Schilling, Crystal Bases (2017), chapter 2; the letters are listed in
+//! `specs/Letters.antt`.
+//!
+//! **Stands on** crystal_cartan.
 #![tactic(auto)]
 
 mod arrows;

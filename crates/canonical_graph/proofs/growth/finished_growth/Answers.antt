@@ -1,16 +1,14 @@
-use Rattle.std.proofs.Common.{sym, subst, ℕ, List}
-use Rattle.tensor_words.specs.Spaces.{SpaceType}
-use Rattle.canonical_graph.specs.Graphs.{IsFinished, finished_graph}
-use Rattle.canonical_graph.proofs.Growing.{grown_whole}
+use Rattle.std.proofs.Common.{◌∙◌}
+use Rattle.canonical_graph.specs.Growth.{codes_in}
+use Rattle.canonical_graph.proofs.Growing.{finished_ended}
 use Rattle.canonical_graph.proofs.growth.finished_growth.Goals as goal
 
-pub targets_of_growth-requires-clause-finished : goal.targets_of_growth-requires-clause-finished
-targets_of_growth-requires-clause-finished c =
-    let grown = grown_whole c.args.world.now _ _ _ _ c.space.ensures.world c.requires c.in_ok-codes.ensures in
-    let placed = subst (λ (s : SpaceType). IsFinished (finished_graph s c.in_ok-codes.codes.items)) (sym c.space.ensures.space) grown.finished in
-    subst (λ (xs : List ℕ). IsFinished (finished_graph c.space.result.now xs)) (sym c.as_slice.ensures.value) placed
+pub lowered_of_growth-requires-clause-finished : goal.lowered_of_growth-requires-clause-finished
+lowered_of_growth-requires-clause-finished c =
+    rw c.as_slice-3.ensures.value
+    (finished_ended c.args.steps c.args.growth.now.found (codes_in c.in_ok-list.list.items) c.args.growth.now.lowered.items c.requires c.in_ok-list.ensures.sorted)
 
-pub returns-clause-grown : goal.returns-clause-grown
-returns-clause-grown c =
-    let grown = grown_whole c.args.world.now _ _ _ _ c.space.ensures.world c.requires c.in_ok-codes.ensures in
-    rw c.of_parts.ensures grown
+pub of-requires-clause-finished : goal.of-requires-clause-finished
+of-requires-clause-finished c =
+    rw (c.as_slice-5.ensures.value ∙ c.in_ok-codes.ensures, c.as_slice.ensures.value)
+    (finished_ended c.args.steps c.args.growth.now.found (codes_in c.in_ok-list.list.items) c.args.growth.now.lowered.items c.requires c.in_ok-list.ensures.sorted)

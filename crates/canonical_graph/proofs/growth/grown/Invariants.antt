@@ -1,12 +1,13 @@
-use Rattle.std.proofs.Common.{◌+◌, ◌-◌, true, false}
+use Rattle.std.proofs.Common.{◌+◌, ◌-◌}
 use Rattle.canonical_graph.specs.Growth.{IsFrontier, HasNexts}
+use Rattle.canonical_graph.specs.Marks.{AreMarks}
 use Rattle.canonical_graph.proofs.growth.grown.Given as goal
 
 abbrev pub invariant-expanded : goal.invariant-expanded
 invariant-expanded l = record {
-  frontier : IsFrontier l.world l.at l.found;
-  lowered : HasNexts l.world.space true l.found l.at l.nexts.lowered.items;
-  raised : HasNexts l.world.space false l.found l.at l.nexts.raised.items;
+  frontier : IsFrontier l.world l.at l.growth.found;
+  lowered : HasNexts l.world.space l.growth.found l.at l.growth.lowered.items;
+  known : AreMarks l.world.space l.growth.found l.growth.known.items;
 }
 
 abbrev pub decreases-expanded : goal.decreases-expanded

@@ -4,7 +4,7 @@ use Rattle.crystal_subsets.proofs.tops.product_tops.Goals as goal
 use Rattle.crystal_subsets.proofs.tops.product_tops.Goals.{then-is_top+in_ok-push, else-is_top}
 
 pub is_top-requires-clause-whole : goal.is_top-requires-clause-whole
-is_top-requires-clause-whole c = rw c.space.ensures.space c.requires.whole
+is_top-requires-clause-whole c = rw c.steps-steps.ensures.space c.requires.whole
 
 pub ranks-preserved : goal.ranks-preserved
 ranks-preserved c =
@@ -16,12 +16,12 @@ ranks-preserved c =
           elim c.if-is_top.branch [
             | then-is_top+in_ok-push w ↦
                 rw w.tops-is
-                (top_added f weight w.weight.result w.plus-weight.result n c.ranks.tops.items w.push.new.self.items c.space.result.now w.space-then-is_top.result.now
-                c.word_at-word.result c.space.ensures.space w.space-then-is_top.ensures.space c.word_at-word.ensures.word (sym w.if-is_top.true ∙ c.is_top.ensures)
+                (top_added f weight w.weight.result w.plus-weight.result n c.ranks.tops.items w.push.new.self.items c.steps-steps.result.now
+                c.word_at-word.result c.steps-steps.ensures.space c.word_at-word.ensures.word (sym w.if-is_top.true ∙ c.is_top.ensures)
                 w.weight.ensures.value w.plus-weight.ensures.sum c.ranks.invariant.listed w.in_ok-push.ensures.items)
             | else-is_top w ↦
                 rw w.tops-is
-                (top_passed f weight n c.ranks.tops.items c.space.result.now c.word_at-word.result c.space.ensures.space c.word_at-word.ensures.word
+                (top_passed f weight n c.ranks.tops.items c.steps-steps.result.now c.word_at-word.result c.steps-steps.ensures.space c.word_at-word.ensures.word
                 (sym w.if-is_top.false ∙ c.is_top.ensures) c.ranks.invariant.listed)
           ];
       last = c.ranks.invariant.last;

@@ -1,4 +1,4 @@
-use Rattle.tensor_words.proofs.WordWeights.{one_factor_rule}
+use Rattle.tensor_words.proofs.Reversal.{one_factor_rule}
 use Rattle.tensor_words.proofs.laws.one_factor_rule.Goals as goal
 
 pub returns : goal.returns

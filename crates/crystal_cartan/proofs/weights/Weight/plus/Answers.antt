@@ -1,21 +1,25 @@
-use Rattle.std.proofs.Common.{arith, length, ◌+◌, ◌+ℤ◌}
-use Rattle.std.proofs.lemmas.Int.{ints}
-use Rattle.crystal_cartan.specs.Weights.{coordinate}
-use Rattle.crystal_cartan.proofs.Coordinates.{filled_more, filled_all, small_at}
+use Rattle.std.proofs.Common.{◌≡◌, length, ap, sym, ◌∙◌, arith, pos}
+use Rattle.crystal_cartan.specs.Padded.{length-take_padded}
+use Rattle.crystal_cartan.proofs.Coordinates.{small_padded, sums_padded, sums_are}
 use Rattle.crystal_cartan.proofs.weights.Weight.plus.Goals as goal
 
-pub places-preserved : goal.places-preserved
-places-preserved c =
-    let v = c.args.self.now in
-    let w = c.args.other.now in
-    let j = c.places.place + 1 in
-    let left = small_at v j (omega arith) (omega arith) c.requires.small in
-    let right = small_at w j (omega arith) (omega arith) c.requires.other_small in
-    filled_more (length v) (λ j. coordinate v j +ℤ coordinate w j) c.places.place c.places.sum c.put-sum.result _ c.places.invariant (omega arith)
-    c.put-sum.ensures.value
-    (omega (arith, ints, c.doubled_at-left.ensures, c.doubled_at-right.ensures, left, right))
+pub sums-requires-clause-left : goal.sums-requires-clause-left
+sums-requires-clause-left c = small_padded c.self.inside.size c.self.inside.doubled c.args.self.now c.self.invariant c.self.view_is c.requires.small
+
+pub sums-requires-clause-right : goal.sums-requires-clause-right
+sums-requires-clause-right c = small_padded c.other.inside.size c.other.inside.doubled c.args.other.now c.other.invariant c.other.view_is c.requires.other_small
+
+pub invariant_of-result : goal.invariant_of-result
+invariant_of-result c =
+    let first = length-take_padded (pos 0) 9 c.self.inside.size c.self.inside.doubled c.self.invariant in
+    let second = length-take_padded (pos 0) 9 c.other.inside.size c.other.inside.doubled c.other.invariant in
+    let same : c.other.inside.size ≡ c.self.inside.size = omega (arith, first, second, ap length c.self.view_is, ap length c.other.view_is, c.requires.same) in
+    sums_padded c.self.inside.size c.other.inside.size c.self.inside.doubled c.other.inside.doubled c.sums.result same c.sums.ensures.size c.self.invariant c.other.invariant c.sums.ensures.sums
 
 pub returns-clause-sum : goal.returns-clause-sum
 returns-clause-sum c =
-    filled_all (length c.args.self.now) (λ j. coordinate c.args.self.now j +ℤ coordinate c.args.other.now j) c.places.place c.places.sum
-    c.places.invariant (omega arith)
+    let first = length-take_padded (pos 0) 9 c.self.inside.size c.self.inside.doubled c.self.invariant in
+    let second = length-take_padded (pos 0) 9 c.other.inside.size c.other.inside.doubled c.other.invariant in
+    let same : c.other.inside.size ≡ c.self.inside.size = omega (arith, first, second, ap length c.self.view_is, ap length c.other.view_is, c.requires.same) in
+    sums_are c.self.inside.size c.other.inside.size c.self.inside.doubled c.other.inside.doubled c.sums.result c.args.self.now c.args.other.now same c.sums.ensures.size
+    c.self.invariant c.self.view_is c.other.view_is c.sums.ensures.sums

@@ -2,7 +2,7 @@ use Rattle.std.proofs.Common.{◌≡◌, ◌<◌, ◌∙◌, sym, ap, subst, get
 use Rattle.std.proofs.lemmas.Int.{to_z-of_z}
 use Rattle.vector_crystals.specs.Letters.{IsLetter}
 use Rattle.tableau_reading.specs.Shapes.{ShapeType, box_count}
-use Rattle.tableau_reading.specs.Readings.{box, boxes}
+use Rattle.tableau_reading.specs.Readings.{box, boxes_read}
 use Rattle.tableau_reading.specs.Fillings.{FillingType, letter_in, IsFilling}
 use Rattle.tableau_reading.proofs.FilledRows.{listed_at, listed_is_filling}
 use Rattle.tableau_reading.proofs.fillings.Filling.letter_at.Goals as goal
@@ -15,7 +15,7 @@ returns-clause-letter c =
     to_z-of_z w8 (get_or c.self.inside.letters c.args.place (pos 0)) (search rules) in
     let same : c.args.self.now.shape ≡ c.self.inside.shape = sym (ap (λ (f : FillingType). f.shape) c.self.view_is) in
     let lt = subst (λ (s : ShapeType). c.args.place < box_count s) same c.requires in
-    let P : FillingType → Type 0 = λ f. get_or letters place (pos 0) ≡ letter_in f (get_or (boxes f.shape.rows) place (box 0 0)).row (get_or (boxes f.shape.rows) place (box 0 0)).column in
+    let P : FillingType → Type 0 = λ f. get_or letters place (pos 0) ≡ letter_in f (get_or (boxes_read f.shape) place (box 0 0)).row (get_or (boxes_read f.shape) place (box 0 0)).column in
     plain ∙ subst P c.self.view_is (listed_at c.self.inside.shape letters place c.boxes-boxes.ensures.shape lt)
 
 pub returns-clause-of_type : goal.returns-clause-of_type

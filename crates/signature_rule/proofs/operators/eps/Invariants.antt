@@ -1,5 +1,0 @@
-use Rattle.signature_rule.proofs.PassSteps.{IsEpsPass}
-use Rattle.signature_rule.proofs.operators.eps.Given as goal
-
-abbrev pub invariant-factors : goal.invariant-factors
-invariant-factors l = IsEpsPass l.space l.i l.word l.place l.eps
