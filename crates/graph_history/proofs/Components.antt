@@ -1,11 +1,12 @@
 -- What is reached from the vertices, closed graphs, and full ones.
-use Rattle.std.proofs.Common.{◌≡◌, refl, sym, ap, subst, ◌∙◌, ℕ, zero, suc, ◌+◌, inl, inr, false, nat_eq, List, [], ◌∷◌, ◌++◌, length, slice_get, map, Option, Some, None, Contains, length-append, arith}
-use Rattle.std.specs.List.{IsDistinct, list_any, AllByRecursion}
+use Rattle.std.proofs.Common.{◌≡◌, refl, sym, ap, subst, ◌∙◌, ℕ, ◌+◌, inl, inr, ◌≤◌, true, eqb-true, nat_eq, List, [], ◌∷◌, ◌++◌, length, Option, Some, None, length-append, arith}
+use Rattle.std.specs.List.{list_any}
 use Rattle.std.specs.Option.{option_and_then}
 use Rattle.std.specs.Cmp.{nat_eq_equiv}
-use Rattle.std.proofs.lemmas.Grind.{common_steps}
 use Rattle.std.proofs.lemmas.List.Elements.{Contains-push_cases}
 use Rattle.std.proofs.lemmas.Map.Keys.{IsDistinct-push}
+use Rattle.std.proofs.lemmas.Map.Made.{length-le_from_is_member}
+use Rattle.std.proofs.lemmas.Map.Views.{list_any-from_Contains, Contains-from_any}
 use Rattle.crystal_cartan.specs.declared.types.Arrow.{Arrow}
 use Rattle.tensor_words.specs.Operators.{IsArrow, op}
 use Rattle.tensor_words.specs.Worlds.{WorldType}
@@ -15,8 +16,10 @@ use Rattle.graph_history.specs.declared.event.Origin.TheVariants.{Root, By}
 use Rattle.graph_history.specs.declared.event.Act.TheVariants.{Spent}
 use Rattle.graph_history.specs.declared.event.Event.{Event}
 use Rattle.graph_history.specs.History.{Vertex, State, empty_state, state_of, HasVertex, HasCode, IsOrigin, IsTarget, MaySpend, LegalFrom, IsLegal, IsClosed}
-use Rattle.graph_history.specs.Laws.{IsReachedIn, VerticesAreReached, ClosedIsReached, ClosedIsComponents, SpentOutnumbers}
+use Rattle.graph_history.specs.Laws.{IsReachedIn, VerticesAreReached, ClosedIsReached, ClosedIsComponents, ClosedFits, SpentOutnumbers}
 use Rattle.graph_history.proofs.Histories.{one_code, around, legal_prefix, legal_rest}
+use Rattle.graph_history.proofs.VertexLists.{keys, length-keys, key_at, has_key, no_key, distinct_keys, vertex_in}
+use Rattle.graph_history.proofs.Fitting.{vertices_fit}
 use Rattle.graph_history.proofs.SoundStates.{IsSound, sound, reached_more, root_walk}
 
 pub vertices_are_reached : VerticesAreReached
@@ -60,9 +63,8 @@ closed_is_components w h codes legal closed roots listed = record {
   complete = λ x r. listed.all x (closed_walk w (state_of h) (sound w h legal) closed r.path r.root x (roots r.root r.rooted) r.arrows r.leads);
 }
 
--- the codes of a list of vertices
-abbrev codes_of : List Vertex → List ℕ
-codes_of vs = map (λ (v : Vertex). v.code) vs
+abbrev code : Vertex → ℕ
+code v = v.code
 
 module _ (w : WorldType) where
   reached_from : (s : State) (x : ℕ) → IsReachedIn w s x → IsReached w x
@@ -72,44 +74,14 @@ module _ (w : WorldType) where
   origin_reached s x Root S rooted = record { root = x; rooted = rooted; path = []; arrows = tt; leads = root_walk w.space x }
   origin_reached s x (By c a) S (y, there, is, leads) = reached_from s x (reached_more w s a x y (S.reached c y there) is leads)
 
-no_such : (vs : List Vertex) (x : ℕ) → ((k : ℕ) (v : Vertex) → slice_get vs k ≡ Some v → v.code ≡ x → ⊥) → list_any (nat_eq x) (codes_of vs) ≡ false
-no_such [] x none = refl
-no_such (v ∷ vs) x none =
-    let rest = no_such vs x (λ k u at. none (suc k) u at) in
-    let head : v.code ≡ x → ⊥ = none zero v refl in
-    grind (arith, common_steps)
-
-none_by_any : (xs : List ℕ) (x : ℕ) → list_any (nat_eq x) xs ≡ false → AllByRecursion (λ y. nat_eq x y ≡ false) xs
-none_by_any [] x h = tt
-none_by_any (y ∷ xs) x h =
-    let split : (nat_eq x y ≡ false) × (list_any (nat_eq x) xs ≡ false) = grind (arith, common_steps) in
-    (split.0, none_by_any xs x split.1)
-
-distinct_codes : (vs : List Vertex) → ((i j : ℕ) (u v : Vertex) → slice_get vs i ≡ Some u → slice_get vs j ≡ Some v → u.code ≡ v.code → i ≡ j) → IsDistinct nat_eq (codes_of vs)
-unfolding IsDistinct
-distinct_codes [] once = tt
-distinct_codes (v ∷ vs) once = (
-  none_by_any (codes_of vs) v.code (no_such vs v.code (λ k u at is. let e : suc k ≡ zero = once (suc k) zero u v at refl is in absurd (omega arith))),
-  distinct_codes vs (λ i j p q at bt is. let e : suc i ≡ suc j = once (suc i) (suc j) p q at bt is in omega arith),
-)
-
-length_codes : (vs : List Vertex) → length (codes_of vs) ≡ length vs
-length_codes [] = refl
-length_codes (v ∷ vs) = ap suc (length_codes vs)
-
-codes_at : (vs : List Vertex) (x : ℕ) → Contains (codes_of vs) x → (k : ℕ) × (v : Vertex) × (slice_get vs k ≡ Some v) × (v.code ≡ x)
-codes_at [] x (k, below, is) = absurd (omega arith)
-codes_at (v ∷ vs) x (zero, below, is) = (zero, v, refl, is)
-codes_at (v ∷ vs) x (suc k, below, is) = let r = codes_at vs x (k, omega arith, is) in (suc r.0, r.1, r.2, r.3)
-
 spent_here : (w : WorldType) (s : State) (x : ℕ) → IsSound w s → MaySpend w s x → Outnumber w
 spent_here w s x S may = record {
-  codes = codes_of s.vertices ++ x ∷ [];
-  many = length-append (codes_of s.vertices) (x ∷ []) ∙ ap (λ n. n + 1) (length_codes s.vertices ∙ may.full);
-  distinct = IsDistinct-push nat_eq_equiv (codes_of s.vertices) x (distinct_codes s.vertices S.simple.codes)
-      (no_such s.vertices x (λ k v at is. may.fresh v.cell (subst (λ (q : ℕ). HasVertex s v.cell q) is (S.simple.vertex k v at))));
-  sound = λ y among. elim (Contains-push_cases (codes_of s.vertices) x y among) [
-    | inl old ↦ let at = codes_at s.vertices y old in
+  codes = keys code s.vertices ++ x ∷ [];
+  many = length-append (keys code s.vertices) (x ∷ []) ∙ ap (λ n. n + 1) (length-keys code s.vertices ∙ may.full);
+  distinct = IsDistinct-push nat_eq_equiv (keys code s.vertices) x (distinct_keys code s.vertices S.simple.codes)
+      (no_key code s.vertices x (λ k v at is. may.fresh v.cell (subst (λ (q : ℕ). HasVertex s v.cell q) is (S.simple.vertex k v at))));
+  sound = λ y among. elim (Contains-push_cases (keys code s.vertices) x y among) [
+    | inl old ↦ let at = key_at code s.vertices y old in
         reached_from w s y (subst (λ (q : ℕ). IsReachedIn w s q) at.3 (S.reached at.1.cell at.1.code (S.simple.vertex at.0 at.1 at.2)))
     | inr new ↦ subst (λ (q : ℕ). IsReached w q) new (origin_reached w s x may.origin S may.cause)
   ];
@@ -121,3 +93,20 @@ spent_outnumbers w h n x legal there =
     let parts = around h _ there in
     let split : LegalFrom w empty_state (parts.0 ++ record { caller = n; act = Spent x } ∷ parts.1) = subst (λ (q : List Event). LegalFrom w empty_state q) parts.2 legal in
     spent_here w (state_of parts.0) x (sound w parts.0 (legal_prefix w parts.0 _ split)) (legal_rest w empty_state parts.0 _ split).0
+
+-- the words of a closed graph that has all roots are no more than its vertices
+pub closed_fits : ClosedFits
+closed_fits w h legal closed roots outnumber =
+    let S = sound w h legal in
+    let few : length outnumber.codes ≤ length (keys code (state_of h).vertices) = length-le_from_is_member nat_eq_equiv outnumber.codes (keys code (state_of h).vertices) outnumber.distinct (there S) in
+    let long = length-keys code (state_of h).vertices in
+    let fit = vertices_fit w h legal in
+    let many = outnumber.many in
+    omega arith
+  where
+    there : IsSound w (state_of h) → (q : ℕ) → list_any (nat_eq q) outnumber.codes ≡ true → list_any (nat_eq q) (keys code (state_of h).vertices) ≡ true
+    there S q is =
+        let r = outnumber.sound q (Contains-from_any eqb-true q outnumber.codes is) in
+        let at = closed_walk w (state_of h) S closed r.path r.root q (roots r.root r.rooted) r.arrows r.leads in
+        let place = vertex_in (state_of h).vertices at.0 q at.1 in
+        list_any-from_Contains nat_eq_equiv q (keys code (state_of h).vertices) (has_key code (state_of h).vertices place.0 (record { cell = at.0; code = q }) place.1)

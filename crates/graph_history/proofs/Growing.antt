@@ -25,5 +25,13 @@ grew w n h acts legal = record { more = by n acts; is = refl; own = calls_by n a
 pub ends : (n : ℕ) (h : List Event) (a : Act) → EndsWith n (h ++ by n (a ∷ []))
 ends n h a = (h, a, refl)
 
-pub ends_two : (n : ℕ) (h : List Event) (a b : Act) → EndsWith n (h ++ by n (a ∷ b ∷ []))
-ends_two n h a b = (h ++ record { caller = n; act = a } ∷ [], b, sym (append_assoc h (record { caller = n; act = a } ∷ []) (record { caller = n; act = b } ∷ [])))
+pub by_append : (n : ℕ) (xs ys : List Act) → by n xs ++ by n ys ≡ by n (xs ++ ys)
+by_append n [] ys = refl
+by_append n (x ∷ xs) ys = ap (λ (l : List Event). record { caller = n; act = x } ∷ l) (by_append n xs ys)
+
+pub ends_by : (n : ℕ) (h : List Event) (acts : List Act) (a : Act) → EndsWith n (h ++ by n (acts ++ a ∷ []))
+ends_by n h acts a = (
+  h ++ by n acts,
+  a,
+  ap (λ (l : List Event). h ++ l) (sym (by_append n acts (a ∷ []))) ∙ sym (append_assoc h (by n acts) (record { caller = n; act = a } ∷ [])),
+)

@@ -4,7 +4,7 @@ use Rattle.std.proofs.lemmas.Grind.{common_steps}
 use Rattle.crystal_cartan.specs.declared.types.Arrow.{Arrow}
 use Rattle.tensor_words.specs.Worlds.{WorldType}
 use Rattle.graph_history.specs.declared.event.Act.{Act}
-use Rattle.graph_history.specs.declared.event.Act.TheVariants.{Added, Met, Missed, Spent, Drew, Saw, Blank}
+use Rattle.graph_history.specs.declared.event.Act.TheVariants.{Added, Met, Missed, Spent, Drew, Saw, Blank, Owed, Settled, Tally}
 use Rattle.graph_history.specs.declared.event.Event.{Event}
 use Rattle.graph_history.specs.History.{Vertex, DrawnArrow, State, empty_state, after, state_from, state_of, vertex_at, target_at, same_way, same_arrow, HasVertex, IsLegalAct, LegalFrom, IsLegal}
 use Rattle.graph_history.specs.Laws.{Stays}
@@ -97,6 +97,9 @@ stays_after s (Spent x) = stays_same s
 stays_after s (Drew c a t) = record { vertices = λ d y h. h; arrows = λ d b to h. target_at-front s.drawn _ d b to h }
 stays_after s (Saw c a t) = stays_same s
 stays_after s (Blank c a) = stays_same s
+stays_after s Owed = record { vertices = λ c x h. h; arrows = λ c a to h. h }
+stays_after s (Settled paid) = record { vertices = λ c x h. h; arrows = λ c a to h. h }
+stays_after s (Tally n) = stays_same s
 
 pub stays_from : (s : State) (es : List Event) → Stays s (state_from s es)
 stays_from s [] = stays_same s

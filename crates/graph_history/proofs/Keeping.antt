@@ -1,12 +1,10 @@
 -- Lists of codes and of arrows that are kept along with a history.
-use Rattle.std.proofs.Common.{◌≡◌, ◌≢◌, refl, sym, ap, subst, ◌∙◌, ℕ, zero, suc, ◌+◌, ◌-◌, ◌*◌, ◌<◌, ◌≤◌, ◌==◌, ◌&&◌, ◌⊎◌, inl, inr, Bool, true, false, nat_eq, if◌then◌else◌, List, [], ◌∷◌, ◌++◌, length, get_or, replicate, slice_get, slice_index, slice_set, position, Option, Some, None, length-append, true≢false, arith}
+use Rattle.std.proofs.Common.{◌≡◌, ◌≢◌, refl, sym, ap, subst, ◌∙◌, ℕ, zero, suc, ◌+◌, ◌-◌, ◌*◌, ◌<◌, ◌≤◌, ◌==◌, ◌&&◌, ◌⊎◌, inl, inr, Bool, true, false, nat_eq, if◌then◌else◌, List, [], ◌∷◌, ◌++◌, length, get_or, replicate, slice_get, slice_index, slice_set, position, Option, Some, None, Contains, length-append, true≢false, arith}
 use Rattle.std.specs.List.{list_any}
-use Rattle.std.proofs.Math.Arith.{digits_lt}
 use Rattle.std.proofs.Math.Nat.{add-mul}
 use Rattle.std.proofs.lemmas.Grind.{common_steps}
 use Rattle.std.proofs.lemmas.List.{get_or-set_same, get_or-set_other, get_or-replicate, get_or_append_left, get_or-append-add, length-replicate, length-set}
 use Rattle.std.proofs.lemmas.List.Quantifiers.{position-Some}
-use Rattle.std.proofs.lemmas.Nat.{same_from_place}
 use Rattle.std.proofs.lemmas.Option.{slice_get_past, slice_get_within, slice_get-get_or}
 use Rattle.crystal_cartan.specs.declared.types.Arrow.{Arrow}
 use Rattle.tensor_words.specs.Spaces.{size}
@@ -14,38 +12,18 @@ use Rattle.tensor_words.specs.Operators.{IsArrow}
 use Rattle.tensor_words.specs.Worlds.{WorldType, IsWorld}
 use Rattle.indexmap.specs.IndexSet.{insert_key}
 use Rattle.graph_history.specs.declared.event.Origin.{Origin}
-use Rattle.graph_history.specs.declared.event.Act.TheVariants.{Added, Drew}
+use Rattle.graph_history.specs.declared.event.Act.{Act}
+use Rattle.graph_history.specs.declared.event.Act.TheVariants.{Added, Met, Missed, Spent, Drew, Saw, Blank, Owed, Settled, Tally}
 use Rattle.graph_history.specs.declared.event.Event.{Event}
-use Rattle.graph_history.specs.History.{State, state_of, after, vertex_at, target_at, same_arrow, HasVertex, IsNew, IsOrigin, MayAdd, MayDraw, IsLegalAct}
-use Rattle.graph_history.specs.Places.{arrow_place, edge_place, edge_word}
-use Rattle.graph_history.specs.Plain.{IsKept, IsDesk}
+use Rattle.graph_history.specs.History.{State, state_of, after, vertex_at, target_at, same_arrow, HasVertex, IsNew, IsOrigin, IsWhole, MayAdd, MayDraw, MaySettle, IsLegalAct, IsLegal}
+use Rattle.graph_history.specs.ArrowRows.{arrow_place, edge_place, edge_word}
+use Rattle.graph_history.specs.Plain.{unpaid_of, IsKept, IsDesk, IsQuiet}
+use Rattle.graph_history.specs.Desks.{unpaid_then, without}
 use Rattle.graph_history.proofs.Histories.{legal_push, legal_empty, state_push, vertex_at-new, vertex_at-other, target_at-new, target_at-other, same_edge, own_edge}
 use Rattle.graph_history.proofs.SoundStates.{sound}
-
--- the places of arrows
-pub place_fits : (rank : ℕ) (a : Arrow) → 1 ≤ a.index → a.index ≤ rank → arrow_place rank a < 2 * rank
-place_fits rank a low high = by a.down
-  where
-    by : (b : Bool) → (if b then a.index - 1 else rank + (a.index - 1)) < 2 * rank
-    by true = omega arith
-    by false = omega arith
-
-same_place_arrow : (rank i j : ℕ) (p q : Bool) → 1 ≤ i → i ≤ rank → 1 ≤ j → j ≤ rank → (if p then i - 1 else rank + (i - 1)) ≡ (if q then j - 1 else rank + (j - 1)) → (p ≡ q) × (i ≡ j)
-same_place_arrow rank i j true true a b c d e = (refl, omega arith)
-same_place_arrow rank i j true false a b c d e = absurd (omega arith)
-same_place_arrow rank i j false true a b c d e = absurd (omega arith)
-same_place_arrow rank i j false false a b c d e = (refl, omega arith)
-
-pub same_place : (w : WorldType) (c d : ℕ) (a b : Arrow) → IsArrow w.space a → IsArrow w.space b → edge_place w.space.cartan.rank c a ≡ edge_place w.space.cartan.rank d b → (c ≡ d) × (a ≡ b)
-same_place w c d a b is js e =
-    let rank = w.space.cartan.rank in
-    let cells = same_from_place c (arrow_place rank a) d (arrow_place rank b) (2 * rank)
-    (place_fits rank a is.index.low is.index.high) (place_fits rank b js.index.low js.index.high) e in
-    let parts = same_place_arrow rank a.index b.index a.down b.down is.index.low is.index.high js.index.low js.index.high cells.1 in
-    (cells.0, λ k. record { down = parts.0 k; index = parts.1 k })
-
-pub edge_fits : (w : WorldType) (n c : ℕ) (a : Arrow) → c < n → IsArrow w.space a → edge_place w.space.cartan.rank c a < n * (2 * w.space.cartan.rank)
-edge_fits w n c a below is = digits_lt below (place_fits w.space.cartan.rank a is.index.low is.index.high)
+use Rattle.graph_history.proofs.Counting.{debts_cover}
+use Rattle.graph_history.proofs.ArrowPlaces.{place_fits, same_place, edge_fits}
+use Rattle.graph_history.proofs.Owing.{unpaid_push, origin_debts, owing_none, owing_added, owing_drew, owing_settled, owing_spare, owing_few}
 
 -- the row of a vertex from which no arrow is drawn
 abbrev blank_row : WorldType → List ℕ
@@ -172,15 +150,50 @@ module _ (w : WorldType) (codes edges : List ℕ) (s : State) (K : IsKept w code
           get_or-set_other edges (edge_place w.space.cartan.rank c a) (edge_place w.space.cartan.rank d b) (edge_word (Some t)) 0 other
           ∙ K.drawn d b cell arrow ∙ sym (ap edge_word (target_at-other s.drawn (record { cell = c; arrow = a; to = t }) d b here))
 
-module _ (w : WorldType) (codes : List ℕ) (spare : ℕ) (edges : List ℕ) (capacity : ℕ) (h : List Event) (D : IsDesk w codes spare edges capacity h) where
-  pub desk_note : (e : Event) (g : List Event) → g ≡ h ++ e ∷ [] → IsLegalAct w (state_of h) e.act → after (state_of h) e.act ≡ state_of h → IsDesk w codes spare edges capacity g
-  desk_note e g is may still = record {
-    world = D.world;
-    legal = rw is (legal_push w h e D.legal may);
-    kept = let same : state_of g ≡ state_of h = rw is (state_push h e ∙ still) in subst (IsKept w codes edges) (sym same) D.kept;
-    memory = D.memory;
-    rows = D.rows;
-  }
+-- nothing of it speaks of debts
+kept_debts : (w : WorldType) (codes edges : List ℕ) (s : State) (n : ℕ) → IsKept w codes edges s → IsKept w codes edges (record s { debts = n })
+kept_debts w codes edges s n K = record { count = K.count; fits = K.fits; vertices = K.vertices; places = K.places; drawn = K.drawn }
+
+-- an act that changes nothing
+quiet_after : (s : State) (act : Act) → IsQuiet act → after s act ≡ s
+quiet_after s (Added c x o) quiet = absurd quiet
+quiet_after s (Met c x) quiet = refl
+quiet_after s (Missed x) quiet = refl
+quiet_after s (Spent x) quiet = refl
+quiet_after s (Drew c a t) quiet = absurd quiet
+quiet_after s (Saw c a t) quiet = refl
+quiet_after s (Blank c a) quiet = refl
+quiet_after s Owed quiet = absurd quiet
+quiet_after s (Settled paid) quiet = absurd quiet
+quiet_after s (Tally n) quiet = refl
+
+quiet_unpaid : (cells : List ℕ) (act : Act) → IsQuiet act → unpaid_then cells act ≡ cells
+quiet_unpaid cells (Added c x o) quiet = absurd quiet
+quiet_unpaid cells (Met c x) quiet = refl
+quiet_unpaid cells (Missed x) quiet = refl
+quiet_unpaid cells (Spent x) quiet = refl
+quiet_unpaid cells (Drew c a t) quiet = absurd quiet
+quiet_unpaid cells (Saw c a t) quiet = refl
+quiet_unpaid cells (Blank c a) quiet = refl
+quiet_unpaid cells Owed quiet = absurd quiet
+quiet_unpaid cells (Settled paid) quiet = absurd quiet
+quiet_unpaid cells (Tally n) quiet = refl
+
+module _ (w : WorldType) (codes : List ℕ) (spare : ℕ) (edges : List ℕ) (capacity debts : ℕ) (h : List Event) (D : IsDesk w codes spare edges capacity debts h) where
+  pub desk_note : (n : ℕ) (act : Act) (g : List Event) → g ≡ h ++ record { caller = n; act = act } ∷ [] → IsLegalAct w (state_of h) act → IsQuiet act → IsDesk w codes spare edges capacity debts g
+  desk_note n act g is may quiet =
+      let e : Event = record { caller = n; act = act } in
+      let same : state_of g ≡ state_of h = rw is (state_push h e ∙ quiet_after (state_of h) act quiet) in
+      let unpaid : unpaid_of g ≡ unpaid_of h = rw is (unpaid_push h e ∙ quiet_unpaid (unpaid_of h) act quiet) in
+      record {
+        world = D.world;
+        legal = rw is (legal_push w h e D.legal may);
+        kept = subst (IsKept w codes edges) (sym same) D.kept;
+        debts = ap (λ (s : State). s.debts) same ∙ D.debts;
+        owing = rw (same, unpaid) D.owing;
+        memory = D.memory;
+        rows = D.rows;
+      }
 
   -- no arrow is drawn from the cell of the next code
   next_bare : (a : Arrow) → target_at (state_of h).drawn (length codes) a ≡ None
@@ -193,25 +206,37 @@ module _ (w : WorldType) (codes : List ℕ) (spare : ℕ) (edges : List ℕ) (ca
           let free = slice_get_past codes (length codes) (omega arith) in
           let none : None ≡ Some found.0 = sym free ∙ sym (D.kept.vertices (length codes)) ∙ found.1 in cc
 
-  pub desk_put : (n x : ℕ) (o : Origin) (more : List ℕ) (left : ℕ) (extended : List ℕ) (reserved : ℕ) (g : List Event) → g ≡ h ++ record { caller = n; act = Added (length codes) x o } ∷ []
-      → more ≡ insert_key nat_eq codes x → spare ≤ left + 1 → extended ≡ edges ++ blank_row w → capacity ≤ reserved
-      → x < size w.space → IsNew (state_of h) x → length (state_of h).vertices ≢ w.cells → IsOrigin w (state_of h) x o → IsDesk w more left extended reserved g
-  desk_put n x o more left extended reserved g is longer used appended enough word fresh free origin =
+  pub desk_put : (n x : ℕ) (o : Origin) (more : List ℕ) (left : ℕ) (extended : List ℕ) (reserved owed : ℕ) (f g : List Event)
+      → f ≡ h ++ record { caller = n; act = Owed } ∷ [] → g ≡ f ++ record { caller = n; act = Added (length codes) x o } ∷ []
+      → more ≡ insert_key nat_eq codes x → spare ≤ left + 1 → extended ≡ edges ++ blank_row w → capacity ≤ reserved → owed ≡ debts + 1
+      → x < size w.space → IsNew (state_of h) x → length (state_of h).vertices ≢ w.cells → IsOrigin w (state_of h) x o → IsDesk w more left extended reserved owed g
+  desk_put n x o more left extended reserved owed f g owes is longer used appended enough one_more word fresh free origin =
       let count = D.kept.count in let fits = D.kept.fits in
       let room : length codes < w.cells = below count fits free in
-      let may : MayAdd w (state_of h) (length codes) x o = record {
+      let S = sound w h D.legal in
+      let s : State = record (state_of h) { debts = (state_of h).debts + 1 } in
+      let cover = debts_cover w h D.legal in
+      let may : MayAdd w s (length codes) x o = record {
         word = word;
         fresh = fresh;
         cell = room;
         free = D.kept.vertices (length codes) ∙ slice_get_past codes (length codes) (omega arith);
-        origin = origin;
+        origin = origin_debts w (state_of h) ((state_of h).debts + 1) x o origin;
+        owed = omega arith;
       } in
       let pushed : more ≡ codes ++ x ∷ [] = longer ∙ ap (λ (b : Bool). if b then codes else codes ++ x ∷ []) (kept_absent w codes edges (state_of h) D.kept x fresh) in
-      let same : state_of g ≡ after (state_of h) (Added (length codes) x o) = rw is (state_push h (record { caller = n; act = Added (length codes) x o })) in
+      let first : state_of f ≡ s = rw owes (state_push h (record { caller = n; act = Owed })) in
+      let same : state_of g ≡ after s (Added (length codes) x o) =
+      rw is (state_push f (record { caller = n; act = Added (length codes) x o }) ∙ ap (λ (t : State). after t (Added (length codes) x o)) first) in
+      let unpaid : unpaid_of g ≡ unpaid_of h ++ length codes ∷ [] =
+      rw is (unpaid_push f (record { caller = n; act = Added (length codes) x o }) ∙ ap (λ (l : List ℕ). l ++ length codes ∷ []) (rw owes (unpaid_push h (record { caller = n; act = Owed })))) in
+      let lawful : IsLegal w f = rw owes (legal_push w h (record { caller = n; act = Owed }) D.legal tt) in
       record {
         world = D.world;
-        legal = rw is (legal_push w h (record { caller = n; act = Added (length codes) x o }) D.legal may);
-        kept = rw (same, pushed, appended) (kept_added w codes edges (state_of h) D.kept x o room next_bare);
+        legal = rw is (legal_push w f (record { caller = n; act = Added (length codes) x o }) lawful (subst (λ (t : State). MayAdd w t (length codes) x o) (sym first) may));
+        kept = rw (same, pushed, appended) (kept_added w codes edges s (kept_debts w codes edges (state_of h) ((state_of h).debts + 1) D.kept) x o room next_bare);
+        debts = ap (λ (t : State). t.debts) same ∙ ap (λ k. k + 1) D.debts ∙ sym one_more;
+        owing = rw (same, unpaid) (owing_added w (state_of h) (unpaid_of h) (length codes) x o D.owing (D.kept.vertices (length codes) ∙ slice_get_past codes (length codes) (omega arith)));
         rows = omega (arith, D.rows);
         memory = let memory = D.memory in let long : length more ≡ length codes + 1 = ap length pushed ∙ length-append codes (x ∷ []) in omega arith;
       }
@@ -220,22 +245,53 @@ module _ (w : WorldType) (codes : List ℕ) (spare : ℕ) (edges : List ℕ) (ca
       below e le ne = omega arith
 
   pub desk_mark : (n c : ℕ) (a : Arrow) (t : Option ℕ) (i word : ℕ) (g : List Event) → g ≡ h ++ record { caller = n; act = Drew c a t } ∷ []
-      → i ≡ edge_place w.space.cartan.rank c a → word ≡ edge_word (Some t) → MayDraw w (state_of h) c a t → IsDesk w codes spare (slice_set edges i word) capacity g
+      → i ≡ edge_place w.space.cartan.rank c a → word ≡ edge_word (Some t) → MayDraw w (state_of h) c a t → IsDesk w codes spare (slice_set edges i word) capacity debts g
   desk_mark n c a t i word g is place told may =
       let same : state_of g ≡ after (state_of h) (Drew c a t) = rw is (state_push h (record { caller = n; act = Drew c a t })) in
+      let unpaid : unpaid_of g ≡ unpaid_of h = rw is (unpaid_push h (record { caller = n; act = Drew c a t })) in
       let below : c < length codes = slice_get_within codes c may.code (sym (D.kept.vertices c) ∙ may.there) in
       record {
         world = D.world;
         legal = rw is (legal_push w h (record { caller = n; act = Drew c a t }) D.legal may);
         kept = rw (same, place, told) (kept_drew w codes edges (state_of h) D.kept c a t below may.arrow may.undrawn);
+        debts = ap (λ (s : State). s.debts) same ∙ D.debts;
+        owing = rw (same, unpaid) (owing_drew w (state_of h) (unpaid_of h) c a t D.owing);
         memory = D.memory;
         rows = D.rows;
       }
 
+  -- a cell is paid for
+  pub desk_settle : (n c left : ℕ) (g : List Event) → g ≡ h ++ record { caller = n; act = Settled (Some c) } ∷ [] → left + 1 ≡ debts
+      → Contains (unpaid_of h) c → IsWhole w (state_of h) c → IsDesk w codes spare edges capacity left g
+  desk_settle n c left g is fewer unpaid whole =
+      let e : Event = record { caller = n; act = Settled (Some c) } in
+      let may : MaySettle w (state_of h) (Some c) = record {
+        spare = owing_spare w (state_of h) (unpaid_of h) c (sound w h D.legal) D.owing unpaid whole;
+        payable = (D.owing.there c unpaid, whole);
+      } in
+      let same : state_of g ≡ record (state_of h) { debts = (state_of h).debts - 1 } = rw is (state_push h e) in
+      let cells : unpaid_of g ≡ without c (unpaid_of h) = rw is (unpaid_push h e) in
+      record {
+        world = D.world;
+        legal = rw is (legal_push w h e D.legal may);
+        kept = subst (IsKept w codes edges) (sym same) (kept_debts w codes edges (state_of h) ((state_of h).debts - 1) D.kept);
+        debts = let all = D.debts in ap (λ (s : State). s.debts) same ∙ omega arith;
+        owing = rw (same, cells) (owing_settled w (state_of h) (unpaid_of h) c D.owing unpaid whole);
+        memory = D.memory;
+        rows = D.rows;
+      }
+
+  -- the number of debts
+  pub debts_some : (c : ℕ) → Contains (unpaid_of h) c → 1 ≤ debts
+  debts_some c (k, below, is) = let all = D.debts in let each = D.owing.counted in omega arith
+
+  pub debts_few : debts ≤ w.cells
+  debts_few = let few = owing_few w (state_of h) (unpaid_of h) (sound w h D.legal) D.owing in let all = D.debts in omega arith
+
 -- the desk at first
-pub desk_first : (w : WorldType) (codes : List ℕ) (spare : ℕ) (edges : List ℕ) (capacity : ℕ) (h : List Event) → IsWorld w → codes ≡ [] → h ≡ [] → w.cells ≤ spare
-    → edges ≡ [] → w.cells * (2 * w.space.cartan.rank) ≤ capacity → IsDesk w codes spare edges capacity h
-desk_first w codes spare edges capacity h world none start room bare rows = rw (none, start, bare) (record {
+pub desk_first : (w : WorldType) (codes : List ℕ) (spare : ℕ) (edges : List ℕ) (capacity debts : ℕ) (h : List Event) → IsWorld w → codes ≡ [] → h ≡ [] → w.cells ≤ spare
+    → edges ≡ [] → w.cells * (2 * w.space.cartan.rank) ≤ capacity → debts ≡ 0 → IsDesk w codes spare edges capacity debts h
+desk_first w codes spare edges capacity debts h world none start room bare rows nothing = rw (none, start, bare, nothing) (record {
   world = world;
   legal = legal_empty w;
   kept = record {
@@ -245,6 +301,8 @@ desk_first w codes spare edges capacity h world none start room bare rows = rw (
     places = omega arith;
     drawn = λ c a cell arrow. absurd (omega arith);
   };
+  debts = refl;
+  owing = owing_none w;
   memory = omega arith;
   rows = rows;
 })

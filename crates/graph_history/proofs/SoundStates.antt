@@ -1,5 +1,5 @@
 -- What holds of every legal history.
-use Rattle.std.proofs.Common.{◌≡◌, refl, sym, ap, subst, ◌∙◌, ℕ, ◌<◌, ◌⊎◌, inl, inr, List, [], ◌∷◌, ◌++◌, slice_get, Option, Some, None, Contains, arith}
+use Rattle.std.proofs.Common.{◌≡◌, refl, sym, ap, subst, ◌∙◌, ℕ, ◌+◌, ◌-◌, ◌<◌, ◌⊎◌, inl, inr, List, [], ◌∷◌, ◌++◌, slice_get, Option, Some, None, Contains, arith}
 use Rattle.std.specs.Option.{option_and_then}
 use Rattle.crystal_cartan.specs.declared.types.Arrow.{Arrow}
 use Rattle.tensor_words.specs.Spaces.{SpaceType, size}
@@ -9,7 +9,7 @@ use Rattle.tensor_words.specs.Reach.{IsPath, walk}
 use Rattle.graph_history.specs.declared.event.Origin.{Origin}
 use Rattle.graph_history.specs.declared.event.Origin.TheVariants.{Root, By}
 use Rattle.graph_history.specs.declared.event.Act.{Act}
-use Rattle.graph_history.specs.declared.event.Act.TheVariants.{Added, Met, Missed, Spent, Drew, Saw, Blank}
+use Rattle.graph_history.specs.declared.event.Act.TheVariants.{Added, Met, Missed, Spent, Drew, Saw, Blank, Owed, Settled, Tally}
 use Rattle.graph_history.specs.declared.event.Event.{Event}
 use Rattle.graph_history.specs.History.{Vertex, DrawnArrow, State, empty_state, after, state_from, state_of, vertex_at, target_at, HasVertex, HasArrow, IsOrigin, IsTarget, MayAdd, MayDraw, IsLegalAct, LegalFrom, IsLegal}
 use Rattle.graph_history.specs.Laws.{Stays, IsReachedIn, IsSimple}
@@ -236,6 +236,26 @@ module _ (w : WorldType) where
         reached = λ d y h. reached_stays s (after s (Drew c a t)) y still (S.reached d y h);
       }
 
+  -- nothing of it speaks of debts
+  sound_debts : (s : State) (n : ℕ) → IsSound s → IsSound (record s { debts = n })
+  sound_debts s n S = record {
+    simple = record {
+      vertex = S.simple.vertex;
+      cells = S.simple.cells;
+      codes = S.simple.codes;
+      drawn = S.simple.drawn;
+      arrows = S.simple.arrows;
+      targets = λ c a t h. let old = S.simple.targets c a t h in (old.0, old.1, target_stays s (record s { debts = n }) a old.0 t still old.2);
+    };
+    below = S.below;
+    words = S.words;
+    apart = S.apart;
+    reached = λ c x h. reached_stays s (record s { debts = n }) x still (S.reached c x h);
+  }
+    where
+      still : Stays s (record s { debts = n })
+      still = record { vertices = λ c x h. h; arrows = λ c a to h. h }
+
   pub sound_after : (s : State) (act : Act) → IsSound s → IsLegalAct w s act → IsSound (after s act)
   sound_after s (Added c x o) S may = sound_added s c x o S may
   sound_after s (Met c x) S may = S
@@ -244,6 +264,9 @@ module _ (w : WorldType) where
   sound_after s (Drew c a t) S may = sound_drew s c a t S may
   sound_after s (Saw c a t) S may = S
   sound_after s (Blank c a) S may = S
+  sound_after s Owed S may = sound_debts s (s.debts + 1) S
+  sound_after s (Settled paid) S may = sound_debts s (s.debts - 1) S
+  sound_after s (Tally n) S may = S
 
   pub sound_from : (s : State) (es : List Event) → IsSound s → LegalFrom w s es → IsSound (state_from s es)
   sound_from s [] S legal = S

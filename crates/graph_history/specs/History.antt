@@ -1,5 +1,5 @@
 -- The growing graph as a list of events: states, legal events, legal histories.
-use Rattle.std.specs.Prelude.{ℕ, ◌<◌, ◌≡◌, ◌==◌, ◌&&◌, Bool, true, false, not, if◌then◌else◌, ⊤, List, [], ◌∷◌, ◌++◌, length, filter, Option, Some, None, Contains}
+use Rattle.std.specs.Prelude.{ℕ, zero, suc, ◌+◌, ◌-◌, ◌<◌, ◌≡◌, ◌==◌, ◌&&◌, Bool, true, false, not, if◌then◌else◌, ⊤, List, [], ◌∷◌, ◌++◌, length, filter, Option, Some, None, is_some, Contains}
 use Rattle.crystal_cartan.specs.declared.types.Arrow.{Arrow}
 use Rattle.tensor_words.specs.Spaces.{size}
 use Rattle.tensor_words.specs.Operators.{IsArrow, op}
@@ -7,7 +7,7 @@ use Rattle.tensor_words.specs.Worlds.{WorldType}
 use Rattle.graph_history.specs.declared.event.Origin.{Origin}
 use Rattle.graph_history.specs.declared.event.Origin.TheVariants.{Root, By}
 use Rattle.graph_history.specs.declared.event.Act.{Act}
-use Rattle.graph_history.specs.declared.event.Act.TheVariants.{Added, Met, Missed, Spent, Drew, Saw, Blank}
+use Rattle.graph_history.specs.declared.event.Act.TheVariants.{Added, Met, Missed, Spent, Drew, Saw, Blank, Owed, Settled, Tally}
 use Rattle.graph_history.specs.declared.event.Event.{Event}
 
 -- a vertex: the word with this code was put into this cell
@@ -21,15 +21,17 @@ pub record DrawnArrow : Type 0 where
   pub arrow : Arrow
   pub to : Option ℕ
 
--- the graph as far as it has grown, in the order of growth
+-- the graph as far as it has grown, in the order of growth, and the number of debts
 pub record State : Type 0 where
   pub vertices : List Vertex
   pub drawn : List DrawnArrow
+  pub debts : ℕ
 
 abbrev pub empty_state : State
-empty_state = record { vertices = []; drawn = [] }
+empty_state = record { vertices = []; drawn = []; debts = 0 }
 
--- `Added` appends a vertex, `Drew` appends an arrow, every other act changes nothing
+-- `Added` appends a vertex, `Drew` appends an arrow, `Owed` adds one debt, `Settled` takes one off, every other act
+-- changes nothing
 abbrev pub after : State → Act → State
 after s (Added c x o) = record s { vertices = s.vertices ++ record { cell = c; code = x } ∷ [] }
 after s (Met c x) = s
@@ -38,6 +40,9 @@ after s (Spent x) = s
 after s (Drew c a t) = record s { drawn = s.drawn ++ record { cell = c; arrow = a; to = t } ∷ [] }
 after s (Saw c a t) = s
 after s (Blank c a) = s
+after s Owed = record s { debts = s.debts + 1 }
+after s (Settled paid) = record s { debts = s.debts - 1 }
+after s (Tally n) = s
 
 -- the state after these events, from a state on, and from the empty one
 abbrev pub state_from : State → List Event → State
@@ -99,6 +104,36 @@ abbrev pub IsTarget : WorldType → State → Arrow → ℕ → Option ℕ → T
 IsTarget w s a y None = op w.space a y ≡ None
 IsTarget w s a y (Some t) = (x : ℕ) × (op w.space a y ≡ Some x) × HasVertex s t x
 
+-- all arrows of the type are drawn from the cell
+abbrev pub IsWhole : WorldType → State → ℕ → Type 0
+IsWhole w s c = (a : Arrow) → IsArrow w.space a → IsDrawn s c a
+
+-- every vertex is whole
+abbrev pub IsClosed : WorldType → State → Type 0
+IsClosed w s = (c : ℕ) → HasSome s c → IsWhole w s c
+
+-- the test of that for one arrow, for all arrows up to an index, and for all of the type
+abbrev pub is_drawn : List DrawnArrow → ℕ → Bool → ℕ → Bool
+is_drawn ds c down i = is_some (target_at ds c (record { down = down; index = i }))
+
+unfoldable pub are_drawn : List DrawnArrow → ℕ → ℕ → Bool
+are_drawn ds c zero = true
+are_drawn ds c (suc n) = is_drawn ds c true (suc n) && (is_drawn ds c false (suc n) && are_drawn ds c n)
+
+abbrev pub is_whole : WorldType → List DrawnArrow → ℕ → Bool
+is_whole w ds c = are_drawn ds c w.space.cartan.rank
+
+-- the vertices that are not whole, and their number
+abbrev pub open_vertices : WorldType → State → List Vertex
+open_vertices w s = filter (λ (v : Vertex). not (is_whole w s.drawn v.cell)) s.vertices
+
+abbrev pub unfinished : WorldType → State → ℕ
+unfinished w s = length (open_vertices w s)
+
+-- the debts outnumber the vertices that are not whole
+abbrev pub HasSpareDebt : WorldType → State → Type 0
+HasSpareDebt w s = unfinished w s < s.debts
+
 -- when each act is legal
 pub record MayAdd (w : WorldType) (s : State) (c x : ℕ) (o : Origin) : Type 0 where
   pub word : x < size w.space
@@ -106,6 +141,7 @@ pub record MayAdd (w : WorldType) (s : State) (c x : ℕ) (o : Origin) : Type 0 
   pub cell : c < w.cells
   pub free : vertex_at s.vertices c ≡ None
   pub origin : IsOrigin w s x o
+  pub owed : HasSpareDebt w s
 
 pub record MayMiss (w : WorldType) (s : State) (x : ℕ) : Type 0 where
   pub word : x < size w.space
@@ -129,6 +165,15 @@ pub record MayBlank (w : WorldType) (s : State) (c : ℕ) (a : Arrow) : Type 0 w
   pub arrow : IsArrow w.space a
   pub undrawn : IsUndrawn s c a
 
+-- a debt that is settled is paid for no cell, or for a vertex that is whole
+abbrev pub IsPayable : WorldType → State → Option ℕ → Type 0
+IsPayable w s None = ⊤
+IsPayable w s (Some c) = HasSome s c × IsWhole w s c
+
+pub record MaySettle (w : WorldType) (s : State) (paid : Option ℕ) : Type 0 where
+  pub spare : HasSpareDebt w s
+  pub payable : IsPayable w s paid
+
 abbrev pub IsLegalAct : WorldType → State → Act → Type 0
 IsLegalAct w s (Added c x o) = MayAdd w s c x o
 IsLegalAct w s (Met c x) = HasVertex s c x
@@ -137,6 +182,9 @@ IsLegalAct w s (Spent x) = MaySpend w s x
 IsLegalAct w s (Drew c a t) = MayDraw w s c a t
 IsLegalAct w s (Saw c a t) = HasArrow s c a t
 IsLegalAct w s (Blank c a) = MayBlank w s c a
+IsLegalAct w s Owed = ⊤
+IsLegalAct w s (Settled paid) = MaySettle w s paid
+IsLegalAct w s (Tally n) = n ≡ s.debts
 
 -- each event is legal in the state of the events before it
 abbrev pub LegalFrom : WorldType → State → List Event → Type 0
@@ -152,11 +200,3 @@ calls h n = filter (λ (e : Event). e.caller == n) h
 
 abbrev pub others : ℕ → List Event → List Event
 others n h = filter (λ (e : Event). not (e.caller == n)) h
-
--- all arrows of the type are drawn from the cell
-abbrev pub IsWhole : WorldType → State → ℕ → Type 0
-IsWhole w s c = (a : Arrow) → IsArrow w.space a → IsDrawn s c a
-
--- every vertex is whole
-abbrev pub IsClosed : WorldType → State → Type 0
-IsClosed w s = (c : ℕ) → HasSome s c → IsWhole w s c

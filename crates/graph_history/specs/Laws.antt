@@ -1,12 +1,12 @@
 -- Laws of legal histories.
-use Rattle.std.specs.Prelude.{ℕ, ◌≡◌, ◌↔◌, List, ◌++◌, slice_get, Option, Some, Contains}
+use Rattle.std.specs.Prelude.{ℕ, ◌≡◌, ◌≤◌, ◌↔◌, List, ◌∷◌, ◌++◌, length, slice_get, Option, Some, Contains}
 use Rattle.std.specs.List.Sorted.{IsStrictlyIncreasing}
 use Rattle.crystal_cartan.specs.declared.types.Arrow.{Arrow}
 use Rattle.tensor_words.specs.Worlds.{WorldType}
 use Rattle.tensor_words.specs.Reach.{IsPath, walk, IsComponentList, Outnumber}
-use Rattle.graph_history.specs.declared.event.Act.TheVariants.{Spent}
+use Rattle.graph_history.specs.declared.event.Act.TheVariants.{Spent, Tally}
 use Rattle.graph_history.specs.declared.event.Event.{Event}
-use Rattle.graph_history.specs.History.{Vertex, DrawnArrow, State, state_of, HasVertex, HasCode, HasArrow, IsTarget, IsLegal, IsClosed}
+use Rattle.graph_history.specs.History.{Vertex, DrawnArrow, State, state_of, HasVertex, HasCode, HasArrow, IsTarget, IsLegal, IsClosed, unfinished}
 
 -- no two vertices share a cell or a code, each arrow of a cell is drawn at most once, and each drawn arrow's target is
 -- the operator's
@@ -65,3 +65,25 @@ ClosedIsComponents =
 abbrev pub SpentOutnumbers : Type 0
 SpentOutnumbers =
     (w : WorldType) (h : List Event) (n x : ℕ) → IsLegal w h → Contains h (record { caller = n; act = Spent x }) → Outnumber w
+
+-- no more vertices than cells
+abbrev pub VerticesFit : Type 0
+VerticesFit = (w : WorldType) (h : List Event) → IsLegal w h → length (state_of h).vertices ≤ w.cells
+
+-- where every cell is taken no vertex comes any more
+abbrev pub FullStays : Type 0
+FullStays =
+    (w : WorldType) (f g : List Event) → IsLegal w (f ++ g) → length (state_of f).vertices ≡ w.cells → (state_of (f ++ g)).vertices ≡ (state_of f).vertices
+
+-- where a history is closed and has all roots, the reached words do not outnumber the cells
+abbrev pub ClosedFits : Type 0
+ClosedFits = (w : WorldType) (h : List Event) → IsLegal w h → IsClosed w (state_of h) → HasRoots w (state_of h) → Outnumber w → ⊥
+
+-- the debts are at least the vertices that are not whole
+abbrev pub DebtsCover : Type 0
+DebtsCover = (w : WorldType) (h : List Event) → IsLegal w h → unfinished w (state_of h) ≤ (state_of h).debts
+
+-- a tally of 0 stands only where the graph is closed
+abbrev pub TallyCloses : Type 0
+TallyCloses =
+    (w : WorldType) (before after : List Event) (n : ℕ) → IsLegal w (before ++ record { caller = n; act = Tally 0 } ∷ after) → IsClosed w (state_of before)

@@ -3,5 +3,6 @@ pub mod Laws
 pub mod Fronts
 pub mod Desks
 pub mod Notes
-pub mod Places
+pub mod ArrowRows
+pub mod Acting
 pub mod Plain

@@ -47,6 +47,16 @@ pub enum Act {
         cell: u32,
         arrow: Arrow,
     },
+    /// One debt more: something is begun that is not finished.
+    Owed,
+    /// One debt less. Where a cell is named, it is paid for a vertex that is whole.
+    Settled {
+        cell: Option<u32>,
+    },
+    /// There are so many debts.
+    Tally {
+        debts: u64,
+    },
 }
 
 /// An act with the number of the caller who did it.

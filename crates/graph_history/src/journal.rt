@@ -3,7 +3,7 @@ ghost use Rattle.std.specs.Prelude.{◌≡◌, [], ◌∷◌, ◌++◌, IfOk, �
 ghost use Rattle.tensor_words.specs.Worlds.{WorldType};
 ghost use Rattle.graph_history.specs.declared.event.Act.TheVariants.{Missed};
 ghost use Rattle.graph_history.specs.declared.event.Event.{Event as EventType};
-ghost use Rattle.graph_history.specs.Notes.{first_view, noted};
+ghost use Rattle.graph_history.specs.Notes.{noting_view, noted};
 
 use crate::event::Event;
 use crate::front::Front;
@@ -19,7 +19,7 @@ pub struct Always;
 impl TableRule<(), View, World> for Always {
     ghost holds = { λ w s. ⊤ };
 
-    ghost first = { first_view };
+    ghost first = { noting_view };
 }
 
 /// The event that a step notes.

@@ -1,5 +1,5 @@
 //! Laws of legal histories. Each call does nothing: its contract is the theorem.
-ghost use Rattle.graph_history.specs.Laws.{StatesAreSimple, StatesStay, VerticesAreReached, ClosedIsReached, ClosedIsComponents, SpentOutnumbers};
+ghost use Rattle.graph_history.specs.Laws.{StatesAreSimple, StatesStay, VerticesAreReached, ClosedIsReached, ClosedIsComponents, SpentOutnumbers, VerticesFit, FullStays, ClosedFits, DebtsCover, TallyCloses};
 
 /// In the state of a legal history no two vertices share a cell or a code, each arrow of a cell is drawn at most once,
 /// and leads to what its operator gives.
@@ -30,4 +30,29 @@ pub fn closed_is_components()
 /// Where an event says that every cell is taken, the reached words outnumber the cells.
 pub fn spent_outnumbers()
     ensures { SpentOutnumbers }
+{}
+
+/// There are no more vertices than cells.
+pub fn vertices_fit()
+    ensures { VerticesFit }
+{}
+
+/// Where every cell is taken no vertex comes any more.
+pub fn full_stays()
+    ensures { FullStays }
+{}
+
+/// Where the graph is closed and has all roots, the reached words do not outnumber the cells.
+pub fn closed_fits()
+    ensures { ClosedFits }
+{}
+
+/// The debts are at least the vertices that are not whole.
+pub fn debts_cover()
+    ensures { DebtsCover }
+{}
+
+/// A tally of 0 stands only where the graph is closed.
+pub fn tally_closes()
+    ensures { TallyCloses }
 {}

@@ -1,10 +1,5 @@
 //! The calls of a desk over lists in memory.
-ghost use Rattle.std.specs.Prelude.{◌≡◌, ℕ, ◌+◌, ◌<◌, ◌≤◌, List, [], Contains};
-ghost use Rattle.tensor_words.specs.Spaces.{size};
-ghost use Rattle.tensor_words.specs.Operators.{IsArrow};
-ghost use Rattle.graph_history.specs.declared.event.Origin.TheVariants.{Root};
-ghost use Rattle.graph_history.specs.History.{state_of, HasSome, others};
-ghost use Rattle.graph_history.specs.Desks.{Grows, EndsWith, Drawing, add_acts};
+ghost use Rattle.graph_history.specs.Plain.{standing_of};
 
 use crate::answer::{Added, Draw, Look};
 use crate::desk::Desk;
@@ -17,15 +12,7 @@ use tensor_words::Space;
 impl Desk for PlainDesk {
     type Bond = LinkedList<Event>;
 
-    ghost world = { λ d. d.world };
-
-    ghost caller = { λ d. d.caller };
-
-    ghost front = { λ d. d.front };
-
-    ghost room = { λ d. d.room };
-
-    ghost bond = { λ d. others d.caller d.front };
+    ghost standing = { standing_of };
 
     fn space(&self) -> &Space {
         self.world().space()
@@ -35,14 +22,7 @@ impl Desk for PlainDesk {
         self.room_left()
     }
 
-    fn add(&mut self, code: u64) -> Added
-        requires root { Contains self.old.world.roots code }
-        requires room { 0 < self.old.room }
-        ensures same { (self.new.world ≡ self.old.world) × (self.new.caller ≡ self.old.caller) × (others self.new.caller self.new.front ≡ others self.old.caller self.old.front) }
-        ensures room { self.old.room ≡ self.new.room + 1 }
-        ensures events { Grows self.old.world self.old.caller self.old.front self.new.front (add_acts code Root result) }
-        ensures last { EndsWith self.old.caller self.new.front }
-    {
+    fn add(&mut self, code: u64) -> Added {
         self.known();
         self.spend();
         let answer = self.enter(code, Origin::Root);
@@ -56,7 +36,6 @@ impl Desk for PlainDesk {
             Some(cell) => self.note(Act::Met { cell, code }),
             None => self.note(Act::Missed { code }),
         }
-        self.known();
         found
     }
 
@@ -75,45 +54,26 @@ impl Desk for PlainDesk {
                 to: Some(to),
             }),
         }
-        self.known();
         look
     }
 
-    fn draw(&mut self, cell: u32, arrow: Arrow) -> Draw
-        requires there { HasSome (state_of self.old.front) cell }
-        requires arrow { IsArrow self.old.world.space arrow }
-        requires room { 0 < self.old.room }
-        ensures same { (self.new.world ≡ self.old.world) × (self.new.caller ≡ self.old.caller) × (others self.new.caller self.new.front ≡ others self.old.caller self.old.front) }
-        ensures room { self.old.room ≡ self.new.room + 1 }
-        ensures events { Drawing self.old.world self.old.caller self.old.front self.new.front cell arrow result }
-        ensures last { EndsWith self.old.caller self.new.front }
-    {
+    fn draw(&mut self, cell: u32, arrow: Arrow) -> Draw {
         self.spend();
-        match self.target(cell, arrow) {
-            Look::Blank => self.draw_blank(cell, arrow),
-            Look::Zero => {
-                self.note(Act::Saw {
-                    cell,
-                    arrow,
-                    to: None,
-                });
-                self.known();
-                Draw::Zero
-            }
-            Look::To { cell: to } => {
-                self.note(Act::Saw {
-                    cell,
-                    arrow,
-                    to: Some(to),
-                });
-                self.known();
-                Draw::To { cell: to }
-            }
-        }
+        self.reach(cell, arrow)
     }
 
     fn word(&mut self, cell: u32) -> u64 {
         self.known();
         self.code_at(cell)
+    }
+
+    fn pay(&mut self, cell: u32) {
+        self.settle(cell);
+    }
+
+    fn tally(&mut self) -> u64 {
+        let debts = self.debts();
+        self.note(Act::Tally { debts });
+        debts
     }
 }

@@ -1,25 +1,26 @@
 //! A desk over lists in memory.
-ghost use Rattle.std.specs.Prelude.{◌≡◌, ◌≢◌, ℕ, ◌+◌, ◌-◌, ◌*◌, ◌<◌, ◌≤◌, ◌^◌, List, [], ◌∷◌, ◌++◌, length, replicate, slice_get, vec_len, vec_capacity, MatchOption, IfSome, IfOk, IsTrue, ◌↔◌, Some, None};
+ghost use Rattle.std.specs.Prelude.{◌≡◌, ◌≢◌, ℕ, ◌+◌, ◌-◌, ◌*◌, ◌<◌, ◌≤◌, ◌^◌, List, [], ◌∷◌, ◌++◌, length, replicate, slice_get, vec_len, vec_capacity, MatchOption, IfSome, IfOk, IsTrue, ◌↔◌, Some, None, Contains};
 ghost use Rattle.tensor_words.specs.Spaces.{size};
 ghost use Rattle.tensor_words.specs.Operators.{IsArrow, op};
 ghost use Rattle.tensor_words.specs.Worlds.{IsWorld};
-ghost use Rattle.graph_history.specs.declared.event.Act.TheVariants.{Added as AddedAct, Drew};
+ghost use Rattle.graph_history.specs.declared.event.Act.TheVariants.{Added as AddedAct, Drew, Owed, Settled};
 ghost use Rattle.graph_history.specs.declared.event.Origin.TheVariants.{By};
-ghost use Rattle.graph_history.specs.History.{state_of, after, target_at, HasVertex, HasSome, IsNew, IsOrigin, IsLegal, IsLegalAct, MayDraw, IsUndrawn};
-ghost use Rattle.graph_history.specs.Desks.{by, add_acts};
-ghost use Rattle.graph_history.specs.Places.{edge_place, edge_word, seen};
-ghost use Rattle.graph_history.specs.Plain.{with_acts, IsDrawing};
+ghost use Rattle.graph_history.specs.History.{state_of, target_at, HasVertex, HasSome, HasArrow, IsNew, IsOrigin, IsWhole, IsLegal, IsLegalAct, MayDraw, IsUndrawn};
+ghost use Rattle.graph_history.specs.Desks.{by, Does};
+ghost use Rattle.graph_history.specs.ArrowRows.{edge_place, edge_word, seen};
+ghost use Rattle.graph_history.specs.Plain.{unpaid_of, standing_of, with_acts, entry_acts, IsQuiet, IsDrawing};
 
 use crate::answer::{Added, Draw, Look};
 use crate::event::{Act, Event, Origin};
 use crate::front::Front;
 use crate::journal::Journal;
+use crate::operators::Operators;
 use crystal_cartan::Arrow;
 use crystal_streams::NoMemory;
 use indexmap::IndexSet;
 use std::alloc::Global;
 use std::marker::Model;
-use tensor_words::{World, next_code};
+use tensor_words::World;
 
 /// The word of an arrow that is not drawn.
 const UNDRAWN: u32 = 0;
@@ -42,11 +43,13 @@ pub struct PlainDesk {
     room: u64,
     codes: IndexSet<u64>,
     edges: Vec<u32>,
+    debts: u64,
+    operators: Operators,
     journal: Journal,
 }
 
 impl Model for PlainDesk {
-    ghost use Rattle.std.specs.Prelude.{vec_capacity};
+    ghost use Rattle.std.specs.Prelude.{◌≡◌, vec_capacity};
     ghost use Rattle.indexmap.specs.IndexSet.{spare};
     ghost use Rattle.graph_history.specs.Plain.{PlainValue, IsDesk};
 
@@ -54,7 +57,7 @@ impl Model for PlainDesk {
 
     ghost view = { λ d. record { world = d.world; caller = d.caller; front = d.journal; room = d.room } };
 
-    ghost invariant = { λ d. IsDesk d.world d.codes.keys (spare d.codes) d.edges.items (vec_capacity d.edges) d.journal };
+    ghost invariant = { λ d. IsDesk d.world d.codes.keys (spare d.codes) d.edges.items (vec_capacity d.edges) d.debts d.journal × (d.operators ≡ d.world.space) };
 }
 
 /// The word of an arrow that leads to this cell, or to zero.
@@ -88,6 +91,7 @@ impl PlainDesk {
         let row = 2 * world.space().cartan().rank() as usize;
         let codes = IndexSet::with_capacity(alloc, cells)?;
         let edges = Vec::with_capacity(alloc, cells * row)?;
+        let operators = Operators::new(alloc, *world.space())?;
         let journal = Journal::new(alloc, &world)?;
         Ok(PlainDesk {
             world,
@@ -95,6 +99,8 @@ impl PlainDesk {
             room: u64::MAX,
             codes,
             edges,
+            debts: 0,
+            operators,
             journal,
         })
     }
@@ -146,13 +152,37 @@ impl PlainDesk {
     /// Notes an act that changes nothing in the graph.
     pub(crate) fn note(&mut self, act: Act)
         requires legal { IsLegalAct self.old.world (state_of self.old.front) act }
-        requires still { after (state_of self.old.front) act ≡ state_of self.old.front }
-        ensures { self.new ≡ with_acts self.old (act ∷ []) }
+        requires quiet { IsQuiet act }
+        ensures value { self.new ≡ with_acts self.old (act ∷ []) }
+        ensures does { Does (standing_of self.old) (standing_of self.new) 0 (act ∷ []) }
     {
         self.journal.note(Event {
             caller: self.caller,
             act,
         });
+        self.known();
+    }
+
+    /// The number of debts.
+    pub(crate) fn debts(&self) -> u64
+        ensures value { result ≡ (state_of self.now.front).debts }
+        ensures settled { unpaid_of self.now.front ≡ [] → result ≡ 0 }
+    {
+        self.debts
+    }
+
+    /// Pays for the vertex of an unpaid cell.
+    pub(crate) fn settle(&mut self, cell: u32)
+        requires unpaid { Contains (unpaid_of self.old.front) cell }
+        requires whole { IsWhole self.old.world (state_of self.old.front) cell }
+        ensures { Does (standing_of self.old) (standing_of self.new) 0 (Settled (Some cell) ∷ []) }
+    {
+        self.debts -= 1;
+        self.journal.note(Event {
+            caller: self.caller,
+            act: Act::Settled { cell: Some(cell) },
+        });
+        self.known();
     }
 
     /// The cell of the word with this code.
@@ -205,13 +235,13 @@ impl PlainDesk {
         }
     }
 
-    /// Puts a new word into the next cell.
+    /// Owes for a new word, and puts it into the next cell.
     fn put(&mut self, code: u64, origin: Origin) -> u32
         requires word { code < size self.old.world.space }
         requires fresh { IsNew (state_of self.old.front) code }
         requires free { length (state_of self.old.front).vertices ≢ self.old.world.cells }
         requires origin { IsOrigin self.old.world (state_of self.old.front) code origin }
-        ensures { self.new ≡ with_acts self.old (AddedAct result code origin ∷ []) }
+        ensures { self.new ≡ with_acts self.old (Owed ∷ AddedAct result code origin ∷ []) }
     {
         let cell = self.codes.len() as u32;
         let row = 2 * self.world.space().cartan().rank() as usize;
@@ -219,6 +249,11 @@ impl PlainDesk {
             unreachable!();
         }
         push_row(&mut self.edges, row);
+        self.debts += 1;
+        self.journal.note(Event {
+            caller: self.caller,
+            act: Act::Owed,
+        });
         self.journal.note(Event {
             caller: self.caller,
             act: Act::Added { cell, code, origin },
@@ -239,11 +274,22 @@ impl PlainDesk {
         });
     }
 
+    /// The code of what the operator of an arrow makes of the word with this code, `None` for zero.
+    fn next(&mut self, code: u64, arrow: Arrow) -> Option<u64>
+        requires code { code < size self.old.world.space }
+        requires arrow { IsArrow self.old.world.space arrow }
+        ensures same { self.new ≡ self.old }
+        ensures value { result ≡ op self.old.world.space arrow code }
+        ensures word { IfSome result (λ next. next < size self.old.world.space) }
+    {
+        self.operators.next(code, arrow)
+    }
+
     /// Puts in a word, unless it is there.
     pub(crate) fn enter(&mut self, code: u64, origin: Origin) -> Added
         requires word { code < size self.old.world.space }
         requires origin { IsOrigin self.old.world (state_of self.old.front) code origin }
-        ensures { self.new ≡ with_acts self.old (add_acts code origin result) }
+        ensures { self.new ≡ with_acts self.old (entry_acts code origin result) }
     {
         if let Some(cell) = self.seek(code) {
             self.note(Act::Met { cell, code });
@@ -256,7 +302,7 @@ impl PlainDesk {
         requires word { code < size self.old.world.space }
         requires fresh { IsNew (state_of self.old.front) code }
         requires origin { IsOrigin self.old.world (state_of self.old.front) code origin }
-        ensures { self.new ≡ with_acts self.old (add_acts code origin result) }
+        ensures { self.new ≡ with_acts self.old (entry_acts code origin result) }
     {
         if self.is_full() {
             self.note(Act::Spent { code });
@@ -266,8 +312,35 @@ impl PlainDesk {
         Added::New { cell }
     }
 
+    /// Draws an arrow, unless it is drawn.
+    pub(crate) fn reach(&mut self, cell: u32, arrow: Arrow) -> Draw
+        requires there { HasSome (state_of self.old.front) cell }
+        requires arrow { IsArrow self.old.world.space arrow }
+        ensures { IsDrawing self.old self.new cell arrow result }
+    {
+        match self.target(cell, arrow) {
+            Look::Blank => self.draw_blank(cell, arrow),
+            Look::Zero => self.see(cell, arrow, None),
+            Look::To { cell: to } => self.see(cell, arrow, Some(to)),
+        }
+    }
+
+    /// Sees an arrow that is drawn.
+    fn see(&mut self, cell: u32, arrow: Arrow, to: Option<u32>) -> Draw
+        requires there { HasSome (state_of self.old.front) cell }
+        requires drawn { HasArrow (state_of self.old.front) cell arrow to }
+        ensures { IsDrawing self.old self.new cell arrow result }
+    {
+        self.note(Act::Saw { cell, arrow, to });
+        self.known();
+        match to {
+            None => Draw::Zero,
+            Some(cell) => Draw::To { cell },
+        }
+    }
+
     /// Draws an arrow that is not drawn.
-    pub(crate) fn draw_blank(&mut self, cell: u32, arrow: Arrow) -> Draw
+    fn draw_blank(&mut self, cell: u32, arrow: Arrow) -> Draw
         requires there { HasSome (state_of self.old.front) cell }
         requires arrow { IsArrow self.old.world.space arrow }
         requires undrawn { IsUndrawn (state_of self.old.front) cell arrow }
@@ -275,7 +348,7 @@ impl PlainDesk {
     {
         self.known();
         let code = self.code_at(cell);
-        match next_code(self.world.space(), code, arrow) {
+        match self.next(code, arrow) {
             None => {
                 self.mark(cell, arrow, None);
                 self.known();

@@ -15,7 +15,7 @@ const E_1: Arrow = Arrow {
     index: 1,
 };
 
-/// The words of two letters in A_1, with the roots `1 1` and `2 1`.
+/// The words of two letters in A_1, with these roots.
 fn world(cells: u32, roots: Codes) -> Option<World> {
     let cartan = Cartan::new(Kind::A, 1).ok()?;
     let space = Space::new(cartan, &[Factor::Vector, Factor::Vector]).ok()?;
@@ -25,9 +25,8 @@ fn world(cells: u32, roots: Codes) -> Option<World> {
     World::new(space, cells, roots).ok()
 }
 
-fn desk(alloc: Global, cells: u32) -> Result<Option<PlainDesk>, NoMemory> {
-    let roots = Codes::of(Vec::from_array(alloc, [0, 2])?);
-    match world(cells, roots) {
+fn desk(alloc: Global, cells: u32, roots: Vec<u64>) -> Result<Option<PlainDesk>, NoMemory> {
+    match world(cells, Codes::of(roots)) {
         Some(world) => Ok(Some(PlainDesk::new(alloc, world, 0)?)),
         None => Ok(None),
     }
@@ -68,11 +67,14 @@ fn word(desk: &mut PlainDesk, code: u64) -> Option<u64> {
     Some(desk.word(cell))
 }
 
+/// The root `1 1` alone. A debt is owed for each word that is put in.
 #[test]
 fn four_cells(rt: HostRuntime) -> Result<(), NoMemory> {
-    let made = desk(rt.alloc(), 4);
+    let made = desk(rt.alloc(), 4, Vec::from_array(rt.alloc(), [0])?);
     let mut desk = made.ok().flatten().expect(&rt, "memory for four cells");
+    assert_eq!(rt; desk.tally(), 0);
     assert!(rt; matches!(add(&mut desk, 0), Some(Added::New { .. })));
+    assert_eq!(rt; desk.tally(), 1);
     assert_eq!(rt; look(&mut desk, 0, F_1), Some(Look::Blank));
     let Some(Draw::To { cell }) = draw(&mut desk, 0, F_1) else {
         panic!(rt; "the arrow leads to a word");
@@ -84,13 +86,15 @@ fn four_cells(rt: HostRuntime) -> Result<(), NoMemory> {
     assert_eq!(rt; find(&mut desk, 3), Some(None));
     desk.call_as(1);
     assert!(rt; matches!(add(&mut desk, 0), Some(Added::Old { .. })));
+    assert_eq!(rt; desk.tally(), 2);
     let _front = desk.front();
     Ok(())
 }
 
+/// The roots `1 1` and `2 1`, of which one alone has a cell.
 #[test]
 fn one_cell(rt: HostRuntime) -> Result<(), NoMemory> {
-    let made = desk(rt.alloc(), 1);
+    let made = desk(rt.alloc(), 1, Vec::from_array(rt.alloc(), [0, 2])?);
     let mut desk = made.ok().flatten().expect(&rt, "memory for one cell");
     assert!(rt; matches!(add(&mut desk, 0), Some(Added::New { .. })));
     assert_eq!(rt; add(&mut desk, 2), Some(Added::Full));

@@ -9,9 +9,17 @@ pub struct Kept {
     pub calls: LinkedList<Event>,
 }
 
+/// What a seat has begun and not finished: the cells that it owes, those among them that are unpaid, and its pledge, 1
+/// between a debt and the vertex that it is for, else 0. No value of it is made.
+pub struct Dues {
+    pub owed: LinkedList<u32>,
+    pub unpaid: LinkedList<u32>,
+    pub pledge: u64,
+}
+
 /// What a seat knows: its world, its number with its events, the numbers that it took in at joins, the range of its
 /// unused numbers, its stake, the history as far as it has seen it, the histories that it had seen before joins, and
-/// the cells that it owes. Contracts alone speak of it. No value of it is made.
+/// its dues. Contracts alone speak of it. No value of it is made.
 pub struct View {
     pub world: World,
     pub number: u64,
@@ -22,5 +30,5 @@ pub struct View {
     pub stake: u64,
     pub front: LinkedList<Event>,
     pub olds: LinkedList<LinkedList<Event>>,
-    pub owed: LinkedList<u32>,
+    pub dues: Dues,
 }

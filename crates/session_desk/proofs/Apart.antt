@@ -1,10 +1,16 @@
 -- Sessions under different numbers.
-use Rattle.std.proofs.Common.{◌≡◌, ◌≢◌, refl, sym, ◌∙◌, ap, ap₂, ℕ, ◌+◌, ◌<◌, ◌⊎◌, inl, inr, List, [], ◌∷◌, ◌++◌, append-nil, append_assoc, arith}
+use Rattle.std.proofs.Common.{◌≡◌, ◌≢◌, refl, sym, subst, ◌∙◌, ap, ap₂, ℕ, ◌==◌, Some, All, ◌+◌, ◌<◌, ◌⊎◌, inl, inr, List, [], ◌∷◌, ◌++◌, append-nil, append_assoc, arith}
 use Rattle.std.proofs.lemmas.Grind.{common_steps}
+use Rattle.std.proofs.lemmas.List.Elements.{filter-append}
 use Rattle.graph_history.specs.declared.event.Event.{Event}
 use Rattle.graph_history.specs.History.{calls, others}
-use Rattle.graph_history.specs.Plain.{PlainValue}
-use Rattle.session_desk.specs.Sessions.{Continues}
+use Rattle.graph_history.specs.Plain.{PlainValue, standing_of}
+use Rattle.graph_history.specs.Desks.{by}
+use Rattle.job_text.specs.declared.commands.Command.{Command}
+use Rattle.session_desk.specs.declared.reply.Reply.{Reply}
+use Rattle.session_desk.specs.Replies.{replies}
+use Rattle.session_desk.specs.Sessions.{Continues, Ran, RanAlone}
+use Rattle.session_desk.specs.Texts.{IsPrintable}
 
 -- the calls of another number are among the events of all others
 pub calls_others : (h : List Event) (m n : ℕ) → n ≢ m → calls (others m h) n ≡ calls h n
@@ -22,6 +28,21 @@ calls_kept old mid new m is same bond n apart =
     let front : mid.front ≡ old.front = ap (λ (v : PlainValue). v.front) is in
     calls_stay old.front new.front m n apart
     (ap (λ (k : ℕ). others k new.front) (sym (same ∙ caller)) ∙ bond ∙ ap₂ (λ (k : ℕ) (l : List Event). others k l) caller front)
+
+-- a script that ran on a desk under a number without events
+pub ran_alone : (old mid new : PlainValue) (n : ℕ) (script : List Command) (before after : List Reply) → mid ≡ record old { caller = n } → calls old.front n ≡ [] → before ≡ []
+    → Ran (standing_of mid) (standing_of new) script before after → RanAlone old.world n new.front script after
+ran_alone old mid new n script before after is fresh none ran =
+    let r : Ran (standing_of (record old { caller = n })) (standing_of new) script [] after =
+    subst (λ (v : PlainValue). Ran (standing_of v) (standing_of new) script [] after) is (subst (λ (l : List Reply). Ran (standing_of mid) (standing_of new) script l after) none ran) in
+    let own : calls new.front n ≡ by n r.acts =
+    ap (λ (l : List Event). calls l n) r.goes.grows.is ∙ filter-append (λ (e : Event). e.caller == n) old.front r.goes.grows.more
+    ∙ ap (λ (l : List Event). l ++ calls r.goes.grows.more n) fresh ∙ r.goes.grows.own in
+    record {
+      legal = r.goes.grows.legal;
+      replied = ap (λ (l : List Event). replies old.world.space script l) own ∙ r.replied ∙ ap (λ (l : List Reply). Some l) (sym r.appended);
+      printable = subst (λ (l : List Reply). All (IsPrintable old.world.space) l) (sym r.appended) r.printable;
+    }
 
 -- a history that goes on begins with all that was before
 pub continues_still : (h : List Event) → Continues h h

@@ -1,5 +1,5 @@
 -- The scripts of a job ask what may be asked of its world.
-use Rattle.std.proofs.Common.{◌≡◌, ◌≤◌, refl, sym, subst, zero, suc, List, [], ◌∷◌, ◌++◌, length, get_or, All, Contains, arith}
+use Rattle.std.proofs.Common.{◌≤◌, refl, sym, subst, zero, suc, List, [], ◌∷◌, ◌++◌, length, get_or, All, Contains, arith}
 use Rattle.std.specs.List.{flat_map}
 use Rattle.std.proofs.lemmas.List.Concat.{flat_map-cons}
 use Rattle.std.proofs.lemmas.List.Elements.{Contains-append_left, Contains-append_right, Contains-get_or}

@@ -11,7 +11,7 @@ use Rattle.tensor_words.specs.Codes.{code_of, word_of}
 use Rattle.tensor_words.specs.TensorRule.{action}
 use Rattle.tensor_words.specs.Operators.{op}
 use Rattle.graph_history.specs.declared.event.Origin.TheVariants.{Root, By}
-use Rattle.graph_history.specs.declared.event.Act.TheVariants.{Added, Met, Missed, Spent, Drew, Saw, Blank}
+use Rattle.graph_history.specs.declared.event.Act.TheVariants.{Added, Met, Missed, Spent, Drew, Saw, Blank, Owed, Settled}
 use Rattle.graph_history.specs.Desks.{by}
 use Rattle.job_text.specs.declared.commands.Command.TheVariants.{Add, Find, Look, Move, Wt, Eps}
 use Rattle.session_desk.specs.declared.reply.Reply.TheVariants.{New, Old, There, Absent, Undrawn, Word, Full, Number, Weight}
@@ -24,18 +24,33 @@ abbrev f : Arrow
 f = record { down = true; index = 1 }
 
 -- two sessions add one word: one of them puts it in, the other meets it
-first_adds : replies words (Add 2 ∷ []) (by 1 (Added 0 2 Root ∷ [])) ≡ Some (New ∷ [])
+first_adds : replies words (Add 2 ∷ []) (by 1 (Owed ∷ Added 0 2 Root ∷ [])) ≡ Some (New ∷ [])
 first_adds = refl
 
 second_adds : replies words (Add 2 ∷ []) (by 2 (Met 0 2 ∷ [])) ≡ Some (Old ∷ [])
 second_adds = refl
 
+-- a debt that was owed for a word which another put in meanwhile is settled again, and so where no cell is left
+owed_in_vain : replies words (Add 2 ∷ Add 3 ∷ []) (by 1 (Owed ∷ Met 0 2 ∷ Settled None ∷ Owed ∷ Spent 3 ∷ Settled None ∷ [])) ≡ Some (Old ∷ Full ∷ [])
+owed_in_vain = refl
+
+-- where every cell is taken the reply is `full`, as it is known at once
+full_add : replies words (Add 2 ∷ []) (by 1 (Spent 2 ∷ [])) ≡ Some (Full ∷ [])
+full_add = refl
+
+-- a word comes in as a root by `add` alone, and no debt is kept for one that is there
+wrong_origin : replies words (Add 2 ∷ []) (by 1 (Owed ∷ Added 0 2 (By 1 f) ∷ [])) ≡ None
+wrong_origin = refl
+
+debt_kept : replies words (Add 2 ∷ []) (by 1 (Owed ∷ Met 0 2 ∷ [])) ≡ None
+debt_kept = refl
+
 -- a session reads its own write
-own_write : replies words (Add 2 ∷ Find 2 ∷ []) (by 1 (Added 0 2 Root ∷ Met 0 2 ∷ [])) ≡ Some (New ∷ There ∷ [])
+own_write : replies words (Add 2 ∷ Find 2 ∷ []) (by 1 (Owed ∷ Added 0 2 Root ∷ Met 0 2 ∷ [])) ≡ Some (New ∷ There ∷ [])
 own_write = refl
 
 -- events that are left over, or of another cell, are no run of the script
-left_over : replies words (Add 2 ∷ []) (by 1 (Added 0 2 Root ∷ Met 0 2 ∷ [])) ≡ None
+left_over : replies words (Add 2 ∷ []) (by 1 (Owed ∷ Added 0 2 Root ∷ Met 0 2 ∷ [])) ≡ None
 left_over = refl
 
 other_cell : replies words (Look f 0 ∷ []) (by 1 (Met 0 0 ∷ Blank 1 f ∷ [])) ≡ None
@@ -43,7 +58,7 @@ other_cell = refl
 
 -- a look, a move and a look again: the arrow is drawn by the move
 drawn_between : replies words (Look f 0 ∷ Move f 0 ∷ Look f 0 ∷ [])
-    (by 1 (Met 0 0 ∷ Blank 0 f ∷ Met 0 0 ∷ Added 1 1 (By 0 f) ∷ Drew 0 f (Some 1) ∷ Met 0 0 ∷ Saw 0 f (Some 1) ∷ []))
+    (by 1 (Met 0 0 ∷ Blank 0 f ∷ Met 0 0 ∷ Owed ∷ Added 1 1 (By 0 f) ∷ Drew 0 f (Some 1) ∷ Met 0 0 ∷ Saw 0 f (Some 1) ∷ []))
     ≡ Some (Undrawn ∷ Word 1 ∷ Word 1 ∷ [])
 unfolding op action base_action digit_action letter_action vector_edges letters base_size word_of code_of
 drawn_between = refl

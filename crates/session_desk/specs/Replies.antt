@@ -6,9 +6,10 @@ use Rattle.tensor_words.specs.Spaces.{SpaceType, word_weight}
 use Rattle.tensor_words.specs.Codes.{word_of}
 use Rattle.tensor_words.specs.TensorRule.{action}
 use Rattle.tensor_words.specs.Operators.{op}
+use Rattle.graph_history.specs.declared.event.Origin.{Origin}
 use Rattle.graph_history.specs.declared.event.Origin.TheVariants.{Root, By}
 use Rattle.graph_history.specs.declared.event.Act.{Act}
-use Rattle.graph_history.specs.declared.event.Act.TheVariants.{Added, Met, Missed, Spent, Drew, Saw, Blank}
+use Rattle.graph_history.specs.declared.event.Act.TheVariants.{Added, Met, Missed, Spent, Drew, Saw, Blank, Owed, Settled}
 use Rattle.graph_history.specs.declared.event.Event.{Event}
 use Rattle.graph_history.specs.History.{same_arrow}
 use Rattle.graph_history.specs.declared.answer.Added.{Added as AddedAnswer}
@@ -40,14 +41,23 @@ then_if false told = None
 abbrev pub is_at : ℕ → Arrow → ℕ → Arrow → Bool
 is_at c a d b = (d == c) && same_arrow b a
 
--- whether an operator gives zero; whether it gives this word
+-- whether an operator gives zero, and what is told of the word that it gives
 abbrev pub is_zero : Option ℕ → Bool
 is_zero None = true
 is_zero (Some y) = false
 
-abbrev pub is_word : Option ℕ → ℕ → Bool
-is_word None x = false
-is_word (Some y) x = y == x
+abbrev pub of_word : Option ℕ → (ℕ → Told) → Told
+of_word None tell = None
+of_word (Some y) tell = tell y
+
+-- whether a word comes in as a root, or by this arrow of this cell
+abbrev pub is_root : Origin → Bool
+is_root Root = true
+is_root (By d b) = false
+
+abbrev pub is_by : ℕ → Arrow → Origin → Bool
+is_by c a Root = false
+is_by c a (By d b) = is_at c a d b
 
 -- the reply of a drawn arrow whose operator gives this
 abbrev pub drawn_reply : Option ℕ → Reply
@@ -64,12 +74,28 @@ abbrev pub found_reply : Option ℕ → Reply
 found_reply (Some c) = There
 found_reply None = Absent
 
+-- a debt that is settled again, since nothing was put in for it
+abbrev pub on_settled : (List Event → Told) → Act → List Event → Told
+on_settled tell (Settled None) rest = tell rest
+on_settled tell _ rest = None
+
+-- an entry of the code x from an origin that the test takes, and what is told further on of its answer. The word is
+-- there already; it is not there, and every cell is taken; or a debt is owed first, and settled where the word is not new
+abbrev pub on_owed : (Origin → Bool) → ℕ → (AddedAnswer → List Event → Told) → Act → List Event → Told
+on_owed from x tell (Added c y o) rest = then_if (y == x && from o) (tell (added.New c) rest)
+on_owed from x tell (Met c y) rest = then_if (y == x) (first (on_settled (tell (added.Old c))) rest)
+on_owed from x tell (Spent y) rest = then_if (y == x) (first (on_settled (tell added.Full)) rest)
+on_owed from x tell _ rest = None
+
+abbrev pub on_entry : (Origin → Bool) → ℕ → (AddedAnswer → List Event → Told) → Act → List Event → Told
+on_entry from x tell (Met c y) rest = then_if (y == x) (tell (added.Old c) rest)
+on_entry from x tell (Spent y) rest = then_if (y == x) (tell added.Full rest)
+on_entry from x tell Owed rest = first (on_owed from x tell) rest
+on_entry from x tell _ rest = None
+
 -- `add` of the code x
 abbrev pub on_add : ℕ → Act → List Event → Told
-on_add x (Added c y Root) rest = reply_if (y == x) New rest
-on_add x (Met c y) rest = reply_if (y == x) Old rest
-on_add x (Spent y) rest = reply_if (y == x) Full rest
-on_add x _ rest = None
+on_add x act rest = on_entry is_root x (λ answer behind. Some (added_reply answer, behind)) act rest
 
 -- `find` of the code x
 abbrev pub on_find : ℕ → Act → List Event → Told
@@ -95,15 +121,18 @@ on_target c a t y (Drew d b (Some u)) rest = reply_if (is_at c a d b && (u == t)
 on_target c a t y (Saw d b (Some u)) rest = reply_if (is_at c a d b && (u == t)) (Word y) rest
 on_target c a t y _ rest = None
 
+-- behind the entry of the code y: there is no cell for it, or the arrow leads to its cell
+abbrev pub behind_entry : ℕ → Arrow → ℕ → AddedAnswer → List Event → Told
+behind_entry c a y (added.New t) rest = first (on_target c a t y) rest
+behind_entry c a y (added.Old t) rest = first (on_target c a t y) rest
+behind_entry c a y added.Full rest = Some (Full, rest)
+
 -- a move along an arrow of the cell c, whose operator gives o: it was drawn already; it is drawn to zero; or the
--- word that the operator gives is put in first, and there may be no cell for it
+-- word that the operator gives is put in first
 abbrev pub on_move : Option ℕ → ℕ → Arrow → Act → List Event → Told
 on_move o c a (Saw d b t) rest = reply_if (is_at c a d b) (drawn_reply o) rest
 on_move o c a (Drew d b None) rest = reply_if (is_at c a d b && is_zero o) Zero rest
-on_move o c a (Added t y (By d b)) rest = then_if (is_at c a d b && is_word o y) (first (on_target c a t y) rest)
-on_move o c a (Met t y) rest = then_if (is_word o y) (first (on_target c a t y) rest)
-on_move o c a (Spent y) rest = reply_if (is_word o y) Full rest
-on_move o c a _ rest = None
+on_move o c a act rest = of_word o (λ y. on_entry (is_by c a) y (behind_entry c a y) act rest)
 
 -- the weight of the word with a code, and the lengths of its strings at an index
 unfoldable pub weight_at : SpaceType → ℕ → List ℤ

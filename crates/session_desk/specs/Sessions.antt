@@ -7,7 +7,7 @@ use Rattle.tensor_words.specs.Worlds.{WorldType}
 use Rattle.graph_history.specs.declared.event.Act.{Act}
 use Rattle.graph_history.specs.declared.event.Event.{Event}
 use Rattle.graph_history.specs.History.{calls, IsLegal}
-use Rattle.graph_history.specs.Desks.{by, Grows}
+use Rattle.graph_history.specs.Desks.{by, Standing, Goes}
 use Rattle.job_text.specs.declared.commands.Command.{Command}
 use Rattle.job_text.specs.declared.commands.Command.TheVariants.{Add, Find, Look, Move, Wt, Eps, Phi}
 use Rattle.session_desk.specs.declared.reply.Reply.{Reply}
@@ -28,25 +28,26 @@ IsAsked w (Phi i x) = HasIndex w.space.cartan i × (x < size w.space)
 abbrev pub Continues : List Event → List Event → Type 0
 Continues old new = (more : List Event) × (new ≡ old ++ more)
 
--- a front grew by acts of this caller from which just this reply is told, whatever comes after
-pub record Tells (w : WorldType) (n : ℕ) (old new : List Event) (tell : List Event → Told) (reply : Reply) : Type 0 where
+-- a desk went on by acts from which just this reply is told, whatever comes behind them
+pub record Replied {Bond : Type 0} (old new : Standing Bond) (places : ℕ) (tell : List Event → Told) (reply : Reply) : Type 0 where
   pub acts : List Act
-  pub grows : Grows w n old new acts
-  pub told : (rest : List Event) → tell (by n acts ++ rest) ≡ Some (reply, rest)
+  pub goes : Goes old new places acts
+  pub told : (rest : List Event) → tell (by old.caller acts ++ rest) ≡ Some (reply, rest)
+  pub printable : IsPrintable old.world.space reply
 
-abbrev pub Answers : WorldType → ℕ → List Event → List Event → Command → Reply → Type 0
-Answers w n old new command reply = Tells w n old new (told_of w.space command) reply
+-- so it answered a command
+abbrev pub Answered : {Bond : Type 0} → Standing Bond → Standing Bond → ℕ → Command → Reply → Type 0
+Answered old new places command reply = Replied old new places (told_of old.world.space command) reply
 
--- a script ran: the front is legal and begins with the one before, the list of replies grew by those of the script, told
--- from the events by which the caller's calls grew, and each of them can be printed
-pub record Ran (w : WorldType) (n : ℕ) (old new : List Event) (script : List Command) (before after : List Reply) : Type 0 where
-  pub more : List Event
-  pub is : new ≡ old ++ more
-  pub legal : IsLegal w new
+-- a script ran: the list of replies grew by those of the script, told from the acts by which the desk went on, and each
+-- of them can be printed
+pub record Ran {Bond : Type 0} (old new : Standing Bond) (script : List Command) (before after : List Reply) : Type 0 where
+  pub acts : List Act
+  pub goes : Goes old new (length script) acts
   pub told : List Reply
   pub appended : after ≡ before ++ told
-  pub replied : replies w.space script (calls more n) ≡ Some told
-  pub printable : All (IsPrintable w.space) told
+  pub replied : replies old.world.space script (by old.caller acts) ≡ Some told
+  pub printable : All (IsPrintable old.world.space) told
 
 -- a script ran under a number that has no other events
 pub record RanAlone (w : WorldType) (n : ℕ) (h : List Event) (script : List Command) (told : List Reply) : Type 0 where

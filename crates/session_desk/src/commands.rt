@@ -1,29 +1,24 @@
 //! The commands of a script, one by one.
-ghost use Rattle.std.specs.Prelude.{◌≡◌, ℕ, ◌+◌, ◌<◌, ◌≤◌, Contains};
+ghost use Rattle.std.specs.Prelude.{◌≡◌, ◌<◌, Contains};
 ghost use Rattle.crystal_cartan.specs.Types.{HasIndex};
 ghost use Rattle.tensor_words.specs.Spaces.{size};
 ghost use Rattle.tensor_words.specs.Operators.{IsArrow, op};
-ghost use Rattle.tensor_words.specs.Worlds.{WorldType};
 ghost use Rattle.graph_history.specs.History.{state_of, HasVertex};
 ghost use Rattle.job_text.specs.declared.commands.Command.TheVariants as asked;
 ghost use Rattle.session_desk.specs.Replies.{first, on_look, on_move, added_reply, found_reply};
-ghost use Rattle.session_desk.specs.Sessions.{IsAsked, Tells, Answers};
-ghost use Rattle.session_desk.specs.Texts.{IsPrintable};
+ghost use Rattle.session_desk.specs.Sessions.{IsAsked, Replied, Answered};
 
 use crate::reply::Reply;
-use crate::words::{drawn, eps, phi, weight};
+use crate::words::{eps, phi, weight};
 use crystal_cartan::Arrow;
 use graph_history::{Added, Desk, Draw, Look};
 use job_text::Command;
 
 /// Answers a command.
 pub(crate) fn answer<D: Desk>(desk: &mut D, command: &Command) -> Reply
-    requires asked { IsAsked (D.world desk.old) command.now }
-    requires room { 0 < D.room desk.old }
-    ensures same { (D.world desk.new ≡ D.world desk.old) × (D.caller desk.new ≡ D.caller desk.old) × (D.bond desk.new ≡ D.bond desk.old) }
-    ensures room { D.room desk.old ≤ D.room desk.new + 1 }
-    ensures answered { Answers (D.world desk.old) (D.caller desk.old) (D.front desk.old) (D.front desk.new) command.now result }
-    ensures printable { IsPrintable (D.world desk.old).space result }
+    requires asked { IsAsked (D.standing desk.old).world command.now }
+    requires room { 0 < (D.standing desk.old).room }
+    ensures { Answered (D.standing desk.old) (D.standing desk.new) 1 command.now result }
 {
     match *command {
         Command::Add(code) => add(desk, code),
@@ -37,12 +32,9 @@ pub(crate) fn answer<D: Desk>(desk: &mut D, command: &Command) -> Reply
 }
 
 fn add<D: Desk>(desk: &mut D, code: u64) -> Reply
-    requires root { Contains (D.world desk.old).roots code }
-    requires room { 0 < D.room desk.old }
-    ensures same { (D.world desk.new ≡ D.world desk.old) × (D.caller desk.new ≡ D.caller desk.old) × (D.bond desk.new ≡ D.bond desk.old) }
-    ensures room { D.room desk.old ≤ D.room desk.new + 1 }
-    ensures answered { Answers (D.world desk.old) (D.caller desk.old) (D.front desk.old) (D.front desk.new) (asked.Add code) result }
-    ensures printable { IsPrintable (D.world desk.old).space result }
+    requires root { Contains (D.standing desk.old).world.roots code }
+    requires room { 0 < (D.standing desk.old).room }
+    ensures { Answered (D.standing desk.old) (D.standing desk.new) 1 (asked.Add code) result }
 {
     let added = desk.add(code);
     reply_to_add(added)
@@ -59,11 +51,8 @@ fn reply_to_add(added: Added) -> Reply
 }
 
 fn find<D: Desk>(desk: &mut D, code: u64) -> Reply
-    requires { code < size (D.world desk.old).space }
-    ensures same { (D.world desk.new ≡ D.world desk.old) × (D.caller desk.new ≡ D.caller desk.old) × (D.bond desk.new ≡ D.bond desk.old) }
-    ensures room { D.room desk.new ≡ D.room desk.old }
-    ensures answered { Answers (D.world desk.old) (D.caller desk.old) (D.front desk.old) (D.front desk.new) (asked.Find code) result }
-    ensures printable { IsPrintable (D.world desk.old).space result }
+    requires { code < size (D.standing desk.old).world.space }
+    ensures { Answered (D.standing desk.old) (D.standing desk.new) 0 (asked.Find code) result }
 {
     let found = desk.find(code);
     reply_to_find(found)
@@ -79,12 +68,9 @@ fn reply_to_find(found: Option<u32>) -> Reply
 }
 
 fn look<D: Desk>(desk: &mut D, arrow: Arrow, code: u64) -> Reply
-    requires arrow { IsArrow (D.world desk.old).space arrow }
-    requires code { code < size (D.world desk.old).space }
-    ensures same { (D.world desk.new ≡ D.world desk.old) × (D.caller desk.new ≡ D.caller desk.old) × (D.bond desk.new ≡ D.bond desk.old) }
-    ensures room { D.room desk.new ≡ D.room desk.old }
-    ensures answered { Answers (D.world desk.old) (D.caller desk.old) (D.front desk.old) (D.front desk.new) (asked.Look arrow code) result }
-    ensures printable { IsPrintable (D.world desk.old).space result }
+    requires arrow { IsArrow (D.standing desk.old).world.space arrow }
+    requires code { code < size (D.standing desk.old).world.space }
+    ensures { Answered (D.standing desk.old) (D.standing desk.new) 0 (asked.Look arrow code) result }
 {
     match desk.find(code) {
         None => Reply::Absent,
@@ -94,28 +80,23 @@ fn look<D: Desk>(desk: &mut D, arrow: Arrow, code: u64) -> Reply
 
 /// Answers a look at an arrow of the vertex of a cell.
 fn look_from<D: Desk>(desk: &mut D, cell: u32, arrow: Arrow, code: u64) -> Reply
-    requires there { HasVertex (state_of (D.front desk.old)) cell code }
-    requires arrow { IsArrow (D.world desk.old).space arrow }
-    requires code { code < size (D.world desk.old).space }
-    ensures same { (D.world desk.new ≡ D.world desk.old) × (D.caller desk.new ≡ D.caller desk.old) × (D.bond desk.new ≡ D.bond desk.old) }
-    ensures room { D.room desk.new ≡ D.room desk.old }
-    ensures told { Tells (D.world desk.old) (D.caller desk.old) (D.front desk.old) (D.front desk.new) (first (on_look (op (D.world desk.old).space arrow code) cell arrow)) result }
-    ensures printable { IsPrintable (D.world desk.old).space result }
+    requires there { HasVertex (state_of (D.standing desk.old).front) cell code }
+    requires arrow { IsArrow (D.standing desk.old).world.space arrow }
+    requires code { code < size (D.standing desk.old).world.space }
+    ensures { Replied (D.standing desk.old) (D.standing desk.new) 0 (first (on_look (op (D.standing desk.old).world.space arrow code) cell arrow)) result }
 {
     match desk.look(cell, arrow) {
         Look::Blank => Reply::Undrawn,
-        Look::Zero | Look::To { .. } => drawn(desk.space(), arrow, code),
+        Look::Zero => Reply::Zero,
+        Look::To { cell: to } => Reply::Word(desk.word(to)),
     }
 }
 
 fn follow<D: Desk>(desk: &mut D, arrow: Arrow, code: u64) -> Reply
-    requires arrow { IsArrow (D.world desk.old).space arrow }
-    requires code { code < size (D.world desk.old).space }
-    requires room { 0 < D.room desk.old }
-    ensures same { (D.world desk.new ≡ D.world desk.old) × (D.caller desk.new ≡ D.caller desk.old) × (D.bond desk.new ≡ D.bond desk.old) }
-    ensures room { D.room desk.old ≤ D.room desk.new + 1 }
-    ensures answered { Answers (D.world desk.old) (D.caller desk.old) (D.front desk.old) (D.front desk.new) (asked.Move arrow code) result }
-    ensures printable { IsPrintable (D.world desk.old).space result }
+    requires arrow { IsArrow (D.standing desk.old).world.space arrow }
+    requires code { code < size (D.standing desk.old).world.space }
+    requires room { 0 < (D.standing desk.old).room }
+    ensures { Answered (D.standing desk.old) (D.standing desk.new) 1 (asked.Move arrow code) result }
 {
     match desk.find(code) {
         None => Reply::Absent,
@@ -125,45 +106,40 @@ fn follow<D: Desk>(desk: &mut D, arrow: Arrow, code: u64) -> Reply
 
 /// Answers a move along an arrow of the vertex of a cell.
 fn follow_from<D: Desk>(desk: &mut D, cell: u32, arrow: Arrow, code: u64) -> Reply
-    requires there { HasVertex (state_of (D.front desk.old)) cell code }
-    requires arrow { IsArrow (D.world desk.old).space arrow }
-    requires code { code < size (D.world desk.old).space }
-    requires room { 0 < D.room desk.old }
-    ensures same { (D.world desk.new ≡ D.world desk.old) × (D.caller desk.new ≡ D.caller desk.old) × (D.bond desk.new ≡ D.bond desk.old) }
-    ensures room { D.room desk.old ≤ D.room desk.new + 1 }
-    ensures told { Tells (D.world desk.old) (D.caller desk.old) (D.front desk.old) (D.front desk.new) (first (on_move (op (D.world desk.old).space arrow code) cell arrow)) result }
-    ensures printable { IsPrintable (D.world desk.old).space result }
+    requires there { HasVertex (state_of (D.standing desk.old).front) cell code }
+    requires arrow { IsArrow (D.standing desk.old).world.space arrow }
+    requires code { code < size (D.standing desk.old).world.space }
+    requires room { 0 < (D.standing desk.old).room }
+    ensures { Replied (D.standing desk.old) (D.standing desk.new) 1 (first (on_move (op (D.standing desk.old).world.space arrow code) cell arrow)) result }
 {
     match desk.draw(cell, arrow) {
         Draw::Full => Reply::Full,
-        Draw::Zero | Draw::To { .. } => drawn(desk.space(), arrow, code),
+        Draw::Zero => Reply::Zero,
+        Draw::To { cell: to } => Reply::Word(desk.word(to)),
     }
 }
 
 fn weigh<D: Desk>(desk: &D, code: u64) -> Reply
-    requires { code < size (D.world desk.now).space }
-    ensures answered { Answers (D.world desk.now) (D.caller desk.now) (D.front desk.now) (D.front desk.now) (asked.Wt code) result }
-    ensures printable { IsPrintable (D.world desk.now).space result }
+    requires { code < size (D.standing desk.now).world.space }
+    ensures { Answered (D.standing desk.now) (D.standing desk.now) 0 (asked.Wt code) result }
 {
     let space = desk.space();
     weight(space, code)
 }
 
 fn count_raises<D: Desk>(desk: &D, index: u8, code: u64) -> Reply
-    requires index { HasIndex (D.world desk.now).space.cartan index }
-    requires code { code < size (D.world desk.now).space }
-    ensures answered { Answers (D.world desk.now) (D.caller desk.now) (D.front desk.now) (D.front desk.now) (asked.Eps index code) result }
-    ensures printable { IsPrintable (D.world desk.now).space result }
+    requires index { HasIndex (D.standing desk.now).world.space.cartan index }
+    requires code { code < size (D.standing desk.now).world.space }
+    ensures { Answered (D.standing desk.now) (D.standing desk.now) 0 (asked.Eps index code) result }
 {
     let space = desk.space();
     eps(space, index, code)
 }
 
 fn count_lowers<D: Desk>(desk: &D, index: u8, code: u64) -> Reply
-    requires index { HasIndex (D.world desk.now).space.cartan index }
-    requires code { code < size (D.world desk.now).space }
-    ensures answered { Answers (D.world desk.now) (D.caller desk.now) (D.front desk.now) (D.front desk.now) (asked.Phi index code) result }
-    ensures printable { IsPrintable (D.world desk.now).space result }
+    requires index { HasIndex (D.standing desk.now).world.space.cartan index }
+    requires code { code < size (D.standing desk.now).world.space }
+    ensures { Answered (D.standing desk.now) (D.standing desk.now) 0 (asked.Phi index code) result }
 {
     let space = desk.space();
     phi(space, index, code)

@@ -1,5 +1,5 @@
 //! Scripts on a desk.
-ghost use Rattle.std.specs.Prelude.{◌≡◌, ℕ, ◌+◌, ◌≤◌, length, All, vec_len, vec_capacity};
+ghost use Rattle.std.specs.Prelude.{◌≡◌, ◌+◌, ◌≤◌, length, All, vec_len, vec_capacity};
 ghost use Rattle.session_desk.specs.Sessions.{IsAsked, Ran};
 
 use crate::commands::answer;
@@ -9,12 +9,10 @@ use job_text::Script;
 
 /// Runs a script on a desk, and appends one reply for each command. Takes no memory.
 pub fn run_script<D: Desk>(desk: &mut D, script: &Script, replies: &mut Vec<Reply>)
-    requires asked { All (IsAsked (D.world desk.old)) script.now }
-    requires room { length script.now ≤ D.room desk.old }
+    requires asked { All (IsAsked (D.standing desk.old).world) script.now }
+    requires room { length script.now ≤ (D.standing desk.old).room }
     requires spare { vec_len replies.old + length script.now ≤ vec_capacity replies.old }
-    ensures same { (D.world desk.new ≡ D.world desk.old) × (D.caller desk.new ≡ D.caller desk.old) × (D.bond desk.new ≡ D.bond desk.old) }
-    ensures room { D.room desk.old ≤ D.room desk.new + length script.now }
-    ensures ran { Ran (D.world desk.old) (D.caller desk.old) (D.front desk.old) (D.front desk.new) script.now replies.old.items replies.new.items }
+    ensures ran { Ran (D.standing desk.old) (D.standing desk.new) script.now replies.old.items replies.new.items }
     ensures count { vec_len replies.new ≡ vec_len replies.old + length script.now }
     ensures capacity { vec_capacity replies.new ≡ vec_capacity replies.old }
 {

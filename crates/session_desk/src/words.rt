@@ -3,13 +3,11 @@ ghost use Rattle.std.specs.Prelude.{◌≡◌, ℕ, ◌<◌};
 ghost use Rattle.crystal_cartan.specs.Types.{HasIndex};
 ghost use Rattle.tensor_words.specs.Spaces.{size};
 ghost use Rattle.tensor_words.specs.Codes.{IsWord, word_of};
-ghost use Rattle.tensor_words.specs.Operators.{IsArrow, op};
-ghost use Rattle.session_desk.specs.Replies.{drawn_reply, weight_at, eps_at, phi_at};
+ghost use Rattle.session_desk.specs.Replies.{weight_at, eps_at, phi_at};
 ghost use Rattle.session_desk.specs.Texts.{IsPrintable};
 
 use crate::reply::Reply;
-use crystal_cartan::Arrow;
-use tensor_words::{Space, Word, next_code};
+use tensor_words::{Space, Word};
 
 /// The word with this code.
 pub(crate) fn word_with(space: &Space, code: u64) -> Word
@@ -20,19 +18,6 @@ pub(crate) fn word_with(space: &Space, code: u64) -> Word
     match space.word_of(code) {
         Some(word) => word,
         None => unreachable!(),
-    }
-}
-
-/// Where a drawn arrow leads.
-pub(crate) fn drawn(space: &Space, arrow: Arrow, code: u64) -> Reply
-    requires arrow { IsArrow space.now arrow }
-    requires code { code < size space.now }
-    ensures reply { result ≡ drawn_reply (op space.now arrow code) }
-    ensures printable { IsPrintable space.now result }
-{
-    match next_code(space, code, arrow) {
-        None => Reply::Zero,
-        Some(next) => Reply::Word(next),
     }
 }
 

@@ -1,4 +1,4 @@
-use Rattle.std.proofs.Common.{◌≡◌, ℕ, ◌+◌, ◌*◌, ◌<◌, ◌≤◌, ◌⊎◌, [], length, take, vec_capacity}
+use Rattle.std.proofs.Common.{◌≡◌, ℕ, ◌+◌, ◌*◌, ◌<◌, ◌≤◌, ◌⊎◌, length, take, vec_capacity}
 use Rattle.graph_history.specs.History.{calls}
 use Rattle.session_desk.specs.Sessions.{AllRan, Continues}
 use Rattle.session_desk.proofs.sessions.run_sessions.Given as goal

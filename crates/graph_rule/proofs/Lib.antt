@@ -1,0 +1,15 @@
+pub mod Sums
+pub mod Views
+pub mod Advance
+pub mod Paths
+pub mod CellSteps
+pub mod Spare
+pub mod Payers
+pub mod Claiming
+pub mod EdgeSteps
+pub mod DebtSteps
+pub mod Opening
+pub mod Splitting
+pub mod Joining
+pub mod Composing
+pub mod Settling

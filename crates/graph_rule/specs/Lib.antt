@@ -1,0 +1,5 @@
+pub mod Layout
+pub mod Rule
+pub mod Told
+pub mod Parting
+pub mod Values

@@ -1,0 +1,218 @@
+-- A search along the path of a code, step by step.
+use Rattle.std.proofs.Common.{◌≡◌, ◌≢◌, refl, sym, ap, subst, ◌∙◌, ℕ, ◌+◌, ◌-◌, ◌%◌, ◌*◌, ◌/◌, ◌^◌, ◌<◌, ◌⊎◌, inl, inr, Bool, true, false, eqb-true, eq-eqb, List, [], ◌∷◌, Some, add-zero, arith}
+use Rattle.std.proofs.Math.Nat.{mod-add-mod}
+use Rattle.tensor_words.specs.Spaces.{size}
+use Rattle.tensor_words.specs.Worlds.{WorldType, IsWorld}
+use Rattle.graph_history.specs.declared.event.Origin.{Origin}
+use Rattle.graph_history.specs.declared.event.Act.{Act}
+use Rattle.graph_history.specs.declared.event.Act.TheVariants.{Met, Missed, Spent}
+use Rattle.graph_history.specs.declared.view.Dues.{Dues}
+use Rattle.graph_history.specs.declared.view.View.{View}
+use Rattle.graph_history.specs.History.{State, state_of, vertex_at, HasVertex, IsNew, IsOrigin}
+use Rattle.graph_rule.specs.Layout.{code_word, home, cell_on, is_last, IsSearched}
+use Rattle.graph_rule.specs.Told.{Advances, Watched, cell_word, roomed_acts, claimed_acts, claimed_dues}
+use Rattle.graph_rule.specs.Values.{SeatValue, GraphValue, Belongs}
+use Rattle.graph_rule.proofs.CellSteps.{origin_stays}
+use Rattle.graph_rule.proofs.Composing.{watched_none, then_step, then_watch, watched_stays, advanced_stays, step_state}
+use Rattle.graph_rule.proofs.Paths.{one_place, word_other, searched_stays}
+use Rattle.intern_cells.specs.Search.{IsAt}
+use Rattle.intern_cells.proofs.Acts.{roomed_last, claimed_on, dues_left}
+
+-- the search of one call so far: no event yet
+pub record Searching (first now : SeatValue) (x k c : ℕ) : Type 0 where
+  pub table : now.table ≡ first.table
+  pub watched : Watched first.view now.view
+  pub at : IsAt now.view x k c
+
+-- where it begins
+below_split : (j m : ℕ) → j < m + 1 → (j < m) ⊎ (j ≡ m)
+below_split j m below = grind arith
+
+pub home_first : (cells x : ℕ) → 0 < cells → home cells x ≡ (home cells x + 0) % cells
+unfolding home
+home_first cells x some_cell = sym (twice_in (((x * 11400714819323198485) % 2 ^ 64) / 2 ^ 32) cells)
+  where
+    twice_in : (a n : ℕ) → (a % n + 0) % n ≡ a % n
+    twice_in a n = mod-add-mod a n 0 ∙ ap (λ (m : ℕ). m % n) (add-zero a)
+
+pub begins : (first : SeatValue) (x : ℕ) → 0 < first.view.world.cells → Searching first first x 0 (home first.view.world.cells x)
+begins first x some_cell = record {
+  table = refl;
+  watched = watched_none first.view;
+  at = record {
+    searched = record { steps = 0; short = some_cell; at = home_first first.view.world.cells x some_cell; before = λ k below. absurd (omega arith) };
+    step = refl;
+  };
+}
+
+module _ (first now : SeatValue) (x k c : ℕ) (s : Searching first now x k c) where
+  world_is : now.view.world ≡ first.view.world
+  world_is = ap (λ (v : View). v.world) s.watched.is
+
+  dues_are : now.view.dues ≡ first.view.dues
+  dues_are = ap (λ (v : View). v.dues) s.watched.is
+
+  pub belongs_now : (g : GraphValue) → Belongs first g → Belongs now g
+  belongs_now g b = record { table = s.table ∙ b.table; world = world_is ∙ b.world }
+
+  pub below_now : k < now.view.world.cells
+  below_now = let short = s.at.searched.short in omega (arith, s.at.step)
+
+  pub cell_below : c < now.view.world.cells
+  cell_below = let short = s.at.searched.short in let at = s.at.searched.at in omega arith
+
+  pub origin_now : (o : Origin) → IsOrigin first.view.world (state_of first.view.front) x o → IsOrigin now.view.world (state_of now.view.front) x o
+  origin_now o h =
+      subst (λ (w : WorldType). IsOrigin w (state_of now.view.front) x o) (sym world_is)
+      (origin_stays first.view.world (state_of first.view.front) (state_of now.view.front) x o (watched_stays first.view now.view s.watched) h)
+
+  -- whether the cell is the last
+  pub last_now : k + 1 ≡ now.view.world.cells → is_last now.view.world x c ≡ true
+  last_now end =
+      let w = now.view.world in
+      let steps : s.at.searched.steps ≡ w.cells - 1 = omega (arith, s.at.step) in
+      eq-eqb c (cell_on w x (w.cells - 1)) (s.at.searched.at ∙ ap (cell_on w x) steps)
+
+  pub not_last : k + 1 ≢ now.view.world.cells → is_last now.view.world x c ≡ false
+  not_last more = by (is_last now.view.world x c) refl
+    where
+      w : WorldType
+      w = now.view.world
+
+      by : (b : Bool) → is_last now.view.world x c ≡ b → b ≡ false
+      by false is = refl
+      by true is =
+          let end = eqb-true c (cell_on now.view.world x (now.view.world.cells - 1)) is in
+          let short = s.at.searched.short in
+          let same = one_place now.view.world x s.at.searched.steps (now.view.world.cells - 1) short (omega arith) (sym s.at.searched.at ∙ end) in
+          absurd (more (omega (arith, s.at.step)))
+
+  -- a step that ends the search
+  pub ends : (next : View) (acts : List Act) (f : Dues → Dues) → Advances now.view next acts (f now.view.dues) → Advances first.view next acts (f first.view.dues)
+  ends next acts f a = subst (λ (d : Dues). Advances first.view next acts (f d)) dues_are (then_step first.view now.view next s.watched acts (f now.view.dues) a)
+
+  -- a step past a cell with another code
+  module _ (next : SeatValue) (n : ℕ) (a : Advances now.view next.view [] now.view.dues) (word : n ≡ cell_word next.view c) where
+    next_world : next.view.world ≡ now.view.world
+    next_world = ap (λ (v : View). v.world) a.is
+
+    still : (q : IsSearched next.view.world (state_of next.view.front) c x) × (q.steps ≡ k)
+    still =
+        subst (λ (w : WorldType). (q : IsSearched w (state_of next.view.front) c x) × (q.steps ≡ k)) (sym next_world)
+        (searched_stays now.view.world (state_of now.view.front) (state_of next.view.front) c x (advanced_stays now.view next.view [] now.view.dues a) s.at.searched, s.at.step)
+
+    still_at : IsSearched next.view.world (state_of next.view.front) c x
+    still_at = still.0
+
+    still_step : still_at.steps ≡ k
+    unfolding still_at
+    still_step = still.1
+
+    other_code : n ≢ 0 → n ≢ x + 1 → (y : ℕ) × (vertex_at (state_of next.view.front).vertices c ≡ Some y) × (y ≢ x)
+    other_code z e = word_other (vertex_at (state_of next.view.front).vertices c) x (λ h. z (word ∙ h)) (λ h. e (word ∙ h))
+
+    pub goes_on : next.table ≡ now.table → n ≢ 0 → n ≢ x + 1 → k + 1 ≢ now.view.world.cells → Searching first next x (k + 1) ((c + 1) % now.view.world.cells)
+    goes_on same z e more = record {
+      table = same ∙ s.table;
+      watched = then_watch first.view now.view next.view s.watched a;
+      at = record {
+        searched = record {
+          steps = still_at.steps + 1;
+          short = let cells = ap (λ (w : WorldType). w.cells) next_world in let below = below_now in omega (arith, still_step);
+          at = next_cell;
+          before = passed;
+        };
+        step = ap (λ (j : ℕ). j + 1) still_step;
+      };
+    }
+      where
+        next_cell : (c + 1) % now.view.world.cells ≡ cell_on next.view.world x (still_at.steps + 1)
+        next_cell =
+            let w = next.view.world in
+            let cells = ap (λ (u : WorldType). u.cells) next_world in
+            ap (λ (m : ℕ). (c + 1) % m) (sym cells) ∙ ap (λ (m : ℕ). (m + 1) % w.cells) still_at.at ∙ mod-add-mod (home w.cells x + still_at.steps) w.cells 1
+            ∙ ap (λ (m : ℕ). m % w.cells) (sum (home w.cells x) still_at.steps)
+          where
+            sum : (a b : ℕ) → a + b + 1 ≡ a + (b + 1)
+            sum a b = omega arith
+
+        here : (y : ℕ) × HasVertex (state_of next.view.front) (cell_on next.view.world x still_at.steps) y × (y ≢ x)
+        here = let o = other_code z e in (o.0, subst (λ (d : ℕ). HasVertex (state_of next.view.front) d o.0) still_at.at o.1, o.2)
+
+        passed : (j : ℕ) → j < still_at.steps + 1 → (y : ℕ) × HasVertex (state_of next.view.front) (cell_on next.view.world x j) y × (y ≢ x)
+        passed j below =
+            elim (below_split j still_at.steps below) [
+              | inl before ↦ still_at.before j before
+              | inr same ↦ subst (λ (i : ℕ). (y : ℕ) × HasVertex (state_of next.view.front) (cell_on next.view.world x i) y × (y ≢ x)) (sym same) here
+            ]
+
+-- the same with the numbers that the code has at hand
+pub begins_at : (first : SeatValue) (g : GraphValue) (w : WorldType) (x cells start : ℕ) → Belongs first g → w ≡ g.world → IsWorld w → cells ≡ w.cells → start ≡ home cells x → Searching first first x 0 start
+begins_at first g w x cells start b is lawful count at =
+    let same : cells ≡ first.view.world.cells = count ∙ ap (λ (u : WorldType). u.cells) is ∙ sym (ap (λ (u : WorldType). u.cells) b.world) in
+    let low = lawful.some in
+    subst (λ (h : ℕ). Searching first first x 0 h) (sym (at ∙ ap (λ (m : ℕ). home m x) same)) (begins first x (omega arith))
+
+module _ (first now : SeatValue) (x k c : ℕ) (s : Searching first now x k c) (g : GraphValue) (w : WorldType) (cells : ℕ) (b : Belongs first g) (is : w ≡ g.world) (count : cells ≡ w.cells) where
+  pub cells_now : now.view.world.cells ≡ cells
+  cells_now = ap (λ (u : WorldType). u.cells) (belongs_now first now x k c s g b).world ∙ sym (ap (λ (u : WorldType). u.cells) is) ∙ sym count
+
+  pub below_all : c < g.world.cells
+  below_all = subst (λ (u : WorldType). c < u.cells) (belongs_now first now x k c s g b).world (cell_below first now x k c s)
+
+  pub word_now : x < size g.world.space → x < size now.view.world.space
+  word_now h = subst (λ (u : WorldType). x < size u.space) (sym (belongs_now first now x k c s g b).world) h
+
+  pub is_last_now : k + 1 ≡ cells → is_last now.view.world x c ≡ true
+  is_last_now end = last_now first now x k c s (end ∙ sym cells_now)
+
+  pub is_not_last : k + 1 ≢ cells → is_last now.view.world x c ≡ false
+  is_not_last more = not_last first now x k c s (λ e. more (e ∙ cells_now))
+
+  pub on_next : (next : SeatValue) (n after : ℕ) (acts : List Act) (d : Dues) → acts ≡ [] → d ≡ now.view.dues → Advances now.view next.view acts d → next.table ≡ now.table → n ≡ cell_word next.view c
+      → n ≢ 0 → n ≢ x + 1 → k + 1 ≢ cells → after ≡ (c + 1) % cells → Searching first next x (k + 1) after
+  on_next next n after acts d none same_dues a same word z e more at =
+      let quiet = subst (λ (l : List Act). Advances now.view next.view l now.view.dues) none (subst (λ (u : Dues). Advances now.view next.view acts u) same_dues a) in
+      let further = goes_on first now x k c s next n quiet word same z e (λ h. more (h ∙ cells_now)) in
+      subst (λ (d : ℕ). Searching first next x (k + 1) d) (sym (at ∙ ap (λ (m : ℕ). (c + 1) % m) (sym cells_now))) further
+
+-- a step without an event, after which the search is at the same cell
+module _ (first now : SeatValue) (x k c : ℕ) (s : Searching first now x k c) (next : SeatValue) (n : ℕ) (acts : List Act) (d : Dues) (none : acts ≡ []) (same_dues : d ≡ now.view.dues) (a : Advances now.view next.view acts d)
+    (word : n ≡ cell_word next.view c) (same : next.table ≡ now.table) where
+  quiet_step : Advances now.view next.view [] now.view.dues
+  quiet_step = subst (λ (l : List Act). Advances now.view next.view l now.view.dues) none (subst (λ (u : Dues). Advances now.view next.view acts u) same_dues a)
+
+  pub stays_here : Searching first next x k c
+  stays_here = record {
+    table = same ∙ s.table;
+    watched = then_watch first.view now.view next.view s.watched quiet_step;
+    at = record { searched = still_at first now x k c s next n quiet_step word; step = still_step first now x k c s next n quiet_step word };
+  }
+
+  pub taken_there : n ≢ 0 → n ≢ x + 1 → (y : ℕ) × HasVertex (state_of next.view.front) c y × (y ≢ x)
+  taken_there z e = other_code first now x k c s next n quiet_step word z e
+
+-- an exchange that another code was faster than
+pub beaten : (first now : SeatValue) (x k c : ℕ) (s : Searching first now x k c) (o : Origin) (next : SeatValue) (n : ℕ) → n ≢ 0 → n ≢ x + 1 → Advances now.view next.view (claimed_acts c x o n) (claimed_dues c n now.view.dues)
+    → (n ≢ 0 → n ≡ cell_word next.view c) → next.table ≡ now.table → Searching first next x k c × ((y : ℕ) × HasVertex (state_of next.view.front) c y × (y ≢ x))
+beaten first now x k c s o next n z e a word same =
+    let acts = claimed_on now.view.world c x n o z e in let left = dues_left c n now.view.dues z in (
+      stays_here first now x k c s next n (claimed_acts c x o n) (claimed_dues c n now.view.dues) acts left a (word z) same,
+      taken_there first now x k c s next n (claimed_acts c x o n) (claimed_dues c n now.view.dues) acts left a (word z) same z e,
+    )
+
+-- a cell that has another code at the end of the path shows that every cell is taken
+pub ends_full : (first now : SeatValue) (x k c : ℕ) (s : Searching first now x k c) (next : SeatValue) (n : ℕ) → (y : ℕ) × HasVertex (state_of now.view.front) c y × (y ≢ x) → is_last now.view.world x c ≡ true
+    → Advances now.view next.view (roomed_acts now.view.world c x n) now.view.dues → n ≡ cell_word next.view c → Advances first.view next.view (Spent x ∷ []) first.view.dues
+ends_full first now x k c s next n (y, there, other) last a word =
+    let later = (advanced_stays now.view next.view (roomed_acts now.view.world c x n) now.view.dues a).vertices c y there in
+    let is : n ≡ y + 1 = word ∙ ap code_word later in
+    let acts = roomed_last now.view.world c x n (λ z. omega arith) (λ e. other (omega arith)) last in
+    ends first now x k c s next.view (Spent x ∷ []) (λ (d : Dues). d) (subst (λ (l : List Act). Advances now.view next.view l now.view.dues) acts a)
+
+-- what a deciding event shows
+pub missed_new : (v w : View) (x : ℕ) (d : Dues) → Advances v w (Missed x ∷ []) d → IsNew (state_of w.front) x
+missed_new v w x d a = let r = step_state v w (Missed x) d a in λ c there. r.1.fresh c (subst (λ (s : State). HasVertex s c x) r.2 there)
+
+pub met_there : (v w : View) (c x : ℕ) (d : Dues) → Advances v w (Met c x ∷ []) d → HasVertex (state_of w.front) c x
+met_there v w c x d a = let r = step_state v w (Met c x) d a in subst (λ (s : State). HasVertex s c x) (sym r.2) r.1

@@ -1,0 +1,24 @@
+//! The path of a code: all cells in a round, from the code's home on.
+ghost use Rattle.std.specs.Prelude.{◌≡◌, ◌<◌, ◌≤◌, ◌+◌, ◌%◌};
+ghost use Rattle.graph_rule.specs.Layout.{home};
+
+/// The odd number next to 2^64 divided by the golden ratio, which spreads codes that lie close.
+const SPREAD: u64 = 11_400_714_819_323_198_485;
+
+/// The cell at which the search for a code begins.
+#[tactic(auto, unfolding(graph_rule::specs::Layout::home))]
+pub(crate) fn home(code: u64, cells: u32) -> u32
+    requires { 0 < cells }
+    ensures { result ≡ home cells code }
+{
+    ((code.wrapping_mul(SPREAD) >> 32) % u64::from(cells)) as u32
+}
+
+/// The cell after this one, in a round.
+pub(crate) fn following(cell: u32, cells: u32) -> u32
+    requires below { cell < cells }
+    requires few { cells ≤ 1048576 }
+    ensures { result ≡ (cell + 1) % cells }
+{
+    if cell + 1 == cells { 0 } else { cell + 1 }
+}
