@@ -1,5 +1,5 @@
 #!/usr/bin/env python3
-"""Damaged jobs through the program and through a judge in Python, written from docs/JOB.md.
+"""Damaged jobs of both versions through the program and through a judge in Python, written from docs/JOB.md.
 
 Usage: tests/peers/grammar_peer.py [JOBS] [SEED]    (3000 jobs, and one as the seed, where none is given)
 
@@ -11,12 +11,13 @@ import subprocess
 import sys
 from collections import Counter
 
-from python_peer import TOP, random_job
+from python_peer import PROGRAM, random_job
 
 RANKS = {"A": (1, 8), "B": (2, 8), "C": (2, 8), "D": (3, 8)}
 # key word: the least number of further words, whether there may be more, and the parts in which it is allowed
 KEYS = {
     "type": (2, False, ["opening"]),
+    "order": (1, False, ["typed"]),
     "shape": (1, True, ["typed"]),
     "space": (1, True, ["typed"]),
     "start": (1, True, ["head"]),
@@ -30,8 +31,8 @@ KEYS = {
     "look": (3, True, ["session"]),
 }
 ASKS = ("demazure", "tops", "reflect")
-PIECES = "type shape space start cells session add look demazure tops reflect f e 0 -0 00 -1 9 10 257 65537".split()
-PIECES += "1000000000 1048577 -01 +1 # v s s+ ++ +- A E".split() + [" ", "\t", "\r", "\n", "\x7f", "crystal-job 1"]
+PIECES = "order standard kashiwara type shape space start cells session add look demazure tops reflect f e 0 -0 00 -1 9 10 257 65537".split()
+PIECES += "1000000000 1048577 -01 +1 # v s s+ ++ +- A E".split() + [" ", "\t", "\r", "\n", "\x7f", "crystal-job 1", "crystal-job 2"]
 
 
 def is_number(word):
@@ -78,11 +79,12 @@ def is_token(token, factor, kind, rank):
 
 
 class Judge:
-    """The judge of one job. `line` gives the fault of the next line, or None."""
+    """The judge of one job of this version. `line` gives the fault of the next line, or None."""
 
-    def __init__(self):
+    def __init__(self, version):
+        self.version = version
         self.part, self.kind, self.rank, self.factors = "opening", None, None, None
-        self.started, self.start_lines, self.has_cells = False, 0, False
+        self.started, self.start_lines, self.has_cells, self.has_order = False, 0, False, False
         self.sessions = self.commands = self.asks = 0
 
     def is_word(self, tokens):
@@ -103,12 +105,12 @@ class Judge:
 
     def line(self, line):
         key, *words = line.split(" ")
-        if key not in KEYS:
+        if key not in KEYS or (key == "order" and self.version == 1):
             return 3
         least, more, parts = KEYS[key]
         if len(words) < least or (len(words) > least and not more) or (key == "look" and words[0] not in ("f", "e")):
             return 3
-        if self.part not in parts or (key == "cells" and self.has_cells):
+        if self.part not in parts or (key == "cells" and self.has_cells) or (key == "order" and self.has_order):
             return 4
         if self.too_many(key, words):
             return 13
@@ -116,13 +118,18 @@ class Judge:
         numbers.update({k: words for k in ("shape", "cells") + ASKS})
         if not all(is_number(word) for word in numbers.get(key, [])):
             return 5
-        return getattr(self, key if key in ("type", "shape", "space", "start", "cells") else "further")(words, key)
+        return getattr(self, key if key in ("type", "order", "shape", "space", "start", "cells") else "further")(words, key)
 
     def type(self, words, _):
         low, high = RANKS.get(words[0], (1, 0))
         if not low <= int(words[1]) <= high:
             return 6
         self.kind, self.rank, self.part = words[0], int(words[1]), "typed"
+
+    def order(self, words, _):
+        if words[0] not in ("standard", "kashiwara"):
+            return 8
+        self.has_order = True
 
     def shape(self, words, _):
         rows = [int(word) for word in words]
@@ -168,13 +175,13 @@ def judged(text):
     if not text:
         return 1, 2
     *lines, tail = text.split(b"\n")
-    judge = Judge()
+    judge = Judge(2 if lines[:1] == [b"crystal-job 2"] else 1)
     for number, line in enumerate(lines + [tail] * (tail != b""), 1):
         if number > len(lines) or any(byte < 32 or byte > 126 for byte in line):
             return number, 1
         words = " ".join(word for word in line.decode().split(" ") if word)
         if number == 1:
-            if line != b"crystal-job 1":
+            if line not in (b"crystal-job 1", b"crystal-job 2"):
                 return 1, 2
         elif words and words[0] != "#":
             fault = judge.line(words)
@@ -218,7 +225,7 @@ def main():
             text = damaged(text, chance)
         job = text.encode("latin-1")
         fault = judged(job)
-        ran = subprocess.run([str(TOP / "crystal"), "grow", "1"], input=job, capture_output=True)
+        ran = subprocess.run([PROGRAM, "grow", "1"], input=job, capture_output=True)
         wanted = b"refused job line %d fault %d\n" % fault if fault else None
         if (wanted is None and ran.returncode not in (0, 3)) or (wanted and (ran.returncode, ran.stdout) != (2, wanted)):
             print(f"job {number} differs: wanted {wanted}, got {ran.returncode} {ran.stdout[:80]}\n{job}")

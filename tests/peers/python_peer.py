@@ -3,9 +3,11 @@
 
 Usage: tests/peers/python_peer.py [JOBS] [SEED]    (200 jobs, and one as the seed, where none is given)
 
-Each job has a type, a space of one to three factors or a shape, starts, sessions and asks; a fifth of them have few
-cells. The model keeps sets and dictionaries, computes operators by the two-factor rule, and writes the whole answer;
-both answers must be the same bytes. The program must be built (./crystal grow 1 < jobs/first.job builds it).
+Each job has a version, a type, a tensor order, a space of one to three factors or a shape, starts, sessions and asks; a
+fifth of them have few cells. The model keeps sets and dictionaries, computes operators by the two-factor rule of the
+order, and writes the whole answer; both answers must be the same bytes. Last, for one job in each type, the component in
+Kashiwara's order must be that of the reversed factors and words in the standard order. The program must be built
+(./crystal grow 1 < jobs/first.job builds it).
 """
 import random
 import subprocess
@@ -16,13 +18,15 @@ from itertools import product
 from pathlib import Path
 
 TOP = Path(__file__).resolve().parents[2]
+PROGRAM = TOP / "crates" / "crystal_shell" / "out" / "crystal_shell"
+STANDARD, KASHIWARA = "standard", "kashiwara"
 
 
 class Crystal:
     """A tensor product of vector and spin crystals of one type. A word is a tuple of letters and sign vectors."""
 
-    def __init__(self, kind, rank, factors):
-        self.kind, self.rank, self.factors = kind, rank, factors
+    def __init__(self, kind, rank, factors, order=STANDARD):
+        self.kind, self.rank, self.factors, self.order = kind, rank, factors, order
         self.bases = [self.base(factor) for factor in factors]
         self.places = [{x: n for n, x in enumerate(base)} for base in self.bases]
 
@@ -78,17 +82,24 @@ class Crystal:
         if len(word) == 1:
             return eps, phi
         eps_rest, phi_rest = self.strings(word[1:], i, at + 1)
+        if self.order == KASHIWARA:
+            return eps + max(0, eps_rest - phi), phi_rest + max(0, phi - eps_rest)
         return eps_rest + max(0, eps - phi_rest), phi + max(0, phi_rest - eps)
 
     def act(self, word, down, i, at=0):
         first, rest, base = word[0], word[1:], self.bases[at]
-        if rest:
-            eps, phi_rest = self.strings_one(first, i, base)[0], self.strings(rest, i, at + 1)[1]
-            if not (phi_rest <= eps if down else phi_rest < eps):
-                moved = self.act(rest, down, i, at + 1)
-                return None if moved is None else (first,) + moved
+        if rest and self.on_rest(first, rest, down, i, at):
+            moved = self.act(rest, down, i, at + 1)
+            return None if moved is None else (first,) + moved
         moved = self.lower_one(first, i) if down else self.raise_one(first, i, base)
         return None if moved is None else (moved,) + rest
+
+    def on_rest(self, first, rest, down, i, at):
+        """Whether the operator acts on the factors behind the first."""
+        (eps, phi), (eps_rest, phi_rest) = self.strings_one(first, i, self.bases[at]), self.strings(rest, i, at + 1)
+        if self.order == KASHIWARA:
+            return phi <= eps_rest if down else phi < eps_rest
+        return phi_rest > eps if down else phi_rest >= eps
 
     def weight(self, word):
         size = self.rank + 1 if self.kind == "A" else self.rank
@@ -125,6 +136,18 @@ class Crystal:
         return sorted(seen, key=self.key)
 
 
+class Mirrored(Crystal):
+    """Words in Kashiwara's order by the standard order of the reversed words over the reversed factors."""
+
+    def __init__(self, kind, rank, factors):
+        super().__init__(kind, rank, factors)
+        self.mirror = Crystal(kind, rank, factors[::-1])
+
+    def act(self, word, down, i, at=0):
+        moved = self.mirror.act(word[::-1], down, i)
+        return None if moved is None else moved[::-1]
+
+
 def text(word):
     return " ".join("".join("+" if s > 0 else "-" for s in x) if isinstance(x, tuple) else str(x) for x in word)
 
@@ -133,9 +156,10 @@ def coordinates(weight):
     return " ".join(str(w.numerator) if w.denominator == 1 else f"{w.numerator}/2" for w in weight)
 
 
-def column_reading(rows):
+def column_reading(rows, order):
     columns = [sum(row > j for row in rows) for j in range(rows[0])]
-    return tuple(x for height in columns for x in range(height, 0, -1))
+    reading = tuple(x for height in columns for x in range(height, 0, -1))
+    return reading if order == STANDARD else reading[::-1]
 
 
 def replies(crystal, starts, sessions, cells):
@@ -211,7 +235,7 @@ def ask_lines(crystal, vertices, rank, start, ask):
             members = strings
         return [f"{head} | {len(members)}"] + [f"{n} | {text(vertices[n])}" for n in sorted(rank[w] for w in members)]
     if name == "tops":
-        other = column_reading(numbers)
+        other = column_reading(numbers, crystal.order)
         weight = Crystal(crystal.kind, crystal.rank, ["v"] * len(other)).weight(other)
         tops = [
             word
@@ -219,7 +243,8 @@ def ask_lines(crystal, vertices, rank, start, ask):
             if all(crystal.strings(word, i)[0] <= crystal.pairing(weight, i) for i in range(1, crystal.rank + 1))
         ]
         sums = [[a + b for a, b in zip(crystal.weight(word), weight)] for word in tops]
-        return [f"{head} | {len(tops)}"] + [f"{text(w)} {text(other)} | {coordinates(s)}" for w, s in zip(tops, sums)]
+        words = [word + other if crystal.order == STANDARD else other + word for word in tops]
+        return [f"{head} | {len(tops)}"] + [f"{text(word)} | {coordinates(s)}" for word, s in zip(words, sums)]
     lines, (i,) = [f"{head} | {len(vertices)}"], numbers
     for n, word in enumerate(vertices):
         times = crystal.pairing(crystal.weight(word), i)
@@ -232,17 +257,21 @@ def ask_lines(crystal, vertices, rank, start, ask):
 def random_job(chance):
     kind = chance.choice("ABCD")
     rank = chance.randint({"A": 1, "B": 2, "C": 2, "D": 3}[kind], 4 if kind != "D" else 4)
-    lines = ["crystal-job 1", f"type {kind} {rank}"]
+    version, order = chance.randint(1, 2), STANDARD
+    lines = [f"crystal-job {version}", f"type {kind} {rank}"]
+    if version == 2 and chance.random() < 0.8:
+        order = chance.choice([STANDARD, KASHIWARA])
+        lines.append(f"order {order}")
     tall = rank + 1 if kind == "A" else rank
     starts = []
     if chance.random() < 0.4:
         rows = sorted((chance.randint(1, 2) for _ in range(chance.randint(1, min(2, tall)))), reverse=True)
-        crystal = Crystal(kind, rank, ["v"] * sum(rows))
+        crystal = Crystal(kind, rank, ["v"] * sum(rows), order)
         lines.append("shape " + " ".join(map(str, rows)))
-        starts.append(column_reading(rows))
+        starts.append(column_reading(rows, order))
     else:
         names = ["v"] + {"B": ["s"], "D": ["s+", "s-"]}.get(kind, [])
-        crystal = Crystal(kind, rank, [chance.choice(names) for _ in range(chance.randint(1, 3))])
+        crystal = Crystal(kind, rank, [chance.choice(names) for _ in range(chance.randint(1, 3))], order)
         lines.append("space " + " ".join(crystal.factors))
     for _ in range(chance.randint(0 if starts else 1, 2)):
         starts.append(crystal.random_word(chance))
@@ -290,24 +319,56 @@ def answer(crystal, starts, sessions, roots, cells, asks):
     return 0, lines + ["end"]
 
 
+# The types, factors and starts whose component in Kashiwara's order is compared with that of their reversals.
+REVERSALS = [
+    ("A", 3, "v v v v", (2, 1, 3, 1)),
+    ("B", 2, "s v v", ((1, -1), 0, 1)),
+    ("B", 3, "v s v", (1, (1, 1, -1), -2)),
+    ("C", 2, "v v v", (-2, 1, 2)),
+    ("D", 4, "s+ v s-", ((1, 1, -1, -1), 4, (1, 1, 1, -1))),
+]
+
+
+def run(job, *statistics):
+    ran = subprocess.run([PROGRAM, "grow", "2", *statistics], input=job.encode(), capture_output=True)
+    return ran.returncode, ran.stdout.decode().split("\n")
+
+
+def compare(name, job, wanted_status, wanted):
+    """Ends the program where its answer to the job is another."""
+    status, said = run(job, "character", "strings", "ends")
+    if status != wanted_status or said != wanted + [""]:
+        place = next((n for n, (a, b) in enumerate(zip(said, wanted)) if a != b), min(len(said), len(wanted)))
+        print(f"{name} differs at line {place + 1} (status {status}, wanted {wanted_status}):\n{job}")
+        print("program:", said[place : place + 1], "\nmodel:  ", wanted[place : place + 1])
+        sys.exit(1)
+
+
+def compare_reversal(kind, rank, factors, start):
+    crystal = Mirrored(kind, rank, factors.split())
+    vertices = crystal.component([start])
+    numbers = {word: n for n, word in enumerate(vertices)}
+    lines = ["crystal-job 2", f"type {kind} {rank}", "order kashiwara", f"space {factors}", f"start {text(start)}"]
+    status, said = run("\n".join(lines) + "\n")
+    if status or said != [f"crystal {kind} {rank}", *graph_lines(crystal, vertices, numbers), "end", ""]:
+        print(f"{lines[1]}, {lines[3]}: the component in Kashiwara's order is not that of the reversed words")
+        sys.exit(1)
+
+
 def main():
     count = int(sys.argv[1]) if len(sys.argv) > 1 else 200
     chance = random.Random(int(sys.argv[2]) if len(sys.argv) > 2 else 1)
-    program = [str(TOP / "crystal"), "grow", "2", "character", "strings", "ends"]
     full = vertices = 0
     for number in range(1, count + 1):
         job, *rest = random_job(chance)
         status, lines = answer(*rest)
-        ran = subprocess.run(program, input=job.encode(), capture_output=True)
-        said = ran.stdout.decode().split("\n")
-        if ran.returncode != status or said != lines + [""]:
-            place = next((n for n, (a, b) in enumerate(zip(said, lines)) if a != b), min(len(said), len(lines)))
-            print(f"job {number} differs at line {place + 1} (status {ran.returncode}, wanted {status}):\n{job}")
-            print("program:", said[place : place + 1], "\nmodel:  ", lines[place : place + 1])
-            sys.exit(1)
+        compare(f"job {number}", job, status, lines)
         full += status == 3
         vertices += len(lines)
     print(f"{count} jobs have the same answer ({full} of them full), {vertices} lines")
+    for case in REVERSALS:
+        compare_reversal(*case)
+    print(f"{len(REVERSALS)} components in Kashiwara's order are those of the reversed factors and words")
 
 
 if __name__ == "__main__":

@@ -6,7 +6,8 @@ use Rattle.tensor_words.specs.Reach.{IsComponentList, walk}
 use Rattle.tensor_words.specs.Worlds.{WorldType}
 use Rattle.graph_history.specs.declared.event.Event.{Event}
 use Rattle.graph_history.specs.History.{calls, others}
-use Rattle.graph_history.specs.Plain.{PlainValue}
+use Rattle.graph_history.specs.Desks.{by}
+use Rattle.graph_history.specs.Plain.{PlainValue, standing_of}
 use Rattle.job_text.specs.declared.commands.Command.{Command}
 use Rattle.job_text.specs.declared.commands.Command.TheVariants.{Add}
 use Rattle.job_text.specs.declared.jobs.Job.{Job}
@@ -47,19 +48,21 @@ all_own n (e ∷ h) none =
     ] none
 
 -- the script of the starts ran on a desk without events
-pub started : (w : WorldType) (old new : List Event) (starts : List ℕ) (before after : List Reply) → old ≡ [] → others 0 new ≡ []
-    → Ran w 0 old new (map Add starts) before after → IsStarted w starts new
-started w old new starts before after fresh none ran =
-    let more : new ≡ ran.more = ran.is ∙ ap (λ (l : List Event). l ++ ran.more) fresh in
-    let own : calls new 0 ≡ new = all_own 0 new none in
-    let events : calls ran.more 0 ≡ new = ap (λ (l : List Event). calls l 0) (sym more) ∙ own in
+pub started : (old new : PlainValue) (starts : List ℕ) (before after : List Reply) → old.front ≡ [] → old.caller ≡ 0 → others 0 new.front ≡ []
+    → Ran (standing_of old) (standing_of new) (map Add starts) before after → IsStarted old.world starts new.front
+started old new starts before after fresh caller none ran =
+    let grown = ran.goes.grows in
+    let more : new.front ≡ grown.more = grown.is ∙ ap (λ (l : List Event). l ++ grown.more) fresh in
+    let own : calls new.front 0 ≡ new.front = all_own 0 new.front none in
+    let events : by old.caller ran.acts ≡ new.front =
+    sym grown.own ∙ ap (λ (n : ℕ). calls grown.more n) caller ∙ ap (λ (l : List Event). calls l 0) (sym more) ∙ own in
     record {
-      first = new;
+      first = new.front;
       rest = [];
-      is = sym (append-nil new);
+      is = sym (append-nil new.front);
       own = own;
       told = ran.told;
-      replied = ap (λ (l : List Event). replies w.space (map Add starts) l) (sym events) ∙ ran.replied;
+      replied = ap (λ (l : List Event). replies old.world.space (map Add starts) l) (sym events) ∙ ran.replied;
     }
 
 -- the starts stay in front

@@ -1,15 +1,17 @@
 -- The parts of the chosen statistics one after another.
-use Rattle.std.proofs.Common.{◌≡◌, refl, sym, subst, ap, ◌∙◌, ℕ, ◌+◌, ◌<◌, ◌≤◌, nat_eq, true, false, List, [], ◌∷◌, ◌++◌, length, map, take, slice_get, slice_index, slice_index_or, slice_set, Option, Some, append_assoc, append-nil, arith}
-use Rattle.std.specs.List.{IsDistinct}
+use Rattle.std.proofs.Common.{◌≡◌, refl, sym, subst, ap, ap₂, ◌∙◌, ℕ, ◌+◌, ◌<◌, ◌≤◌, nat_eq, Bool, true, if◌then◌else◌, Contains, List, [], ◌∷◌, ◌++◌, length, map, take, slice_get, slice_index, slice_index_or, Option, Some, append_assoc, append-nil, arith}
+use Rattle.std.specs.List.{list_any}
 use Rattle.std.specs.Option.{option_map}
-use Rattle.std.proofs.lemmas.Bool.{eq-eqb}
+use Rattle.std.proofs.lemmas.Cmp.{nat_eq_equiv}
 use Rattle.std.proofs.lemmas.Grind.{flat_map-append}
-use Rattle.std.proofs.lemmas.List.{get_or-set_other, take_all, take_more}
-use Rattle.std.proofs.lemmas.Map.Keys.{apart_from_distinct}
-use Rattle.std.proofs.lemmas.Option.{slice_get-get_or, slice_get-map}
+use Rattle.std.proofs.lemmas.List.{take_all, take_more}
+use Rattle.std.proofs.lemmas.List.Elements.{Contains-get_or}
+use Rattle.std.proofs.lemmas.Map.Views.{list_any-from_Contains}
+use Rattle.std.proofs.lemmas.Option.{slice_get-map}
 use Rattle.answer_text.specs.Texts.{statistic_text}
 use Rattle.crystal_characters.specs.declared.items.Item.{Item}
-use Rattle.crystal_shell.specs.Statistics.{Kind, names_of, part_of, statistics_text}
+use Rattle.crystal_characters.specs.Items.{items_for}
+use Rattle.crystal_shell.specs.Statistics.{Reporter, names_of, part_of, statistics_text}
 
 -- the names of all
 names_of_kinds : {B : Type 0} (name : B → List ℕ) (reports : B → List Item → List ℕ) (bs : List B) → map name bs ≡ names_of (map (λ b. record { name = name b; reports = reports b }) bs)
@@ -28,32 +30,26 @@ pub part_more : {B : Type 0} (name : B → List ℕ) (reports : B → List Item 
     → after ≡ before ++ statistics_text (map (λ b. record { name = name b; reports = reports b }) bs) (take (k + 1) places) items
 part_more {B = B} name reports bs places k items before mid after p b below this read so_far added =
     let at : slice_get bs (slice_index places k) ≡ Some b = subst (λ (q : ℕ). slice_get bs q ≡ Some b) this read in
-    let kinds : List Kind = map (λ b. record { name = name b; reports = reports b }) bs in
-    let here : slice_get kinds (slice_index places k) ≡ Some (record { name = name b; reports = reports b }) =
+    let reporters : List Reporter = map (λ b. record { name = name b; reports = reports b }) bs in
+    let here : slice_get reporters (slice_index places k) ≡ Some (record { name = name b; reports = reports b }) =
     slice_get-map (λ b. record { name = name b; reports = reports b }) bs (slice_index places k) ∙ ap (λ (o : Option B). option_map (λ b. record { name = name b; reports = reports b }) o) at in
-    let more : statistics_text kinds (take (k + 1) places) items ≡ statistics_text kinds (take k places) items ++ part_of (slice_get kinds (slice_index places k)) items =
-    ap (λ (ps : List ℕ). statistics_text kinds ps items) (take_more places k 0 below)
-    ∙ flat_map-append (λ p. part_of (slice_get kinds p) items) (take k places) (slice_index places k ∷ [])
-    ∙ ap (λ (l : List ℕ). statistics_text kinds (take k places) items ++ l) (append-nil (part_of (slice_get kinds (slice_index places k)) items)) in
+    let more : statistics_text reporters (take (k + 1) places) items ≡ statistics_text reporters (take k places) items ++ part_of (slice_get reporters (slice_index places k)) items =
+    ap (λ (ps : List ℕ). statistics_text reporters ps items) (take_more places k 0 below)
+    ∙ flat_map-append (λ p. part_of (slice_get reporters p) items) (take k places) (slice_index places k ∷ [])
+    ∙ ap (λ (l : List ℕ). statistics_text reporters (take k places) items ++ l) (append-nil (part_of (slice_get reporters (slice_index places k)) items)) in
     added ∙ ap (λ (l : List ℕ). l ++ statistic_text (name b) (reports b items)) so_far
-    ∙ append_assoc before (statistics_text kinds (take k places) items) (statistic_text (name b) (reports b items))
-    ∙ ap (λ (l : List ℕ). before ++ l) (sym (more ∙ ap (λ (o : Option Kind). statistics_text kinds (take k places) items ++ part_of o items) here))
+    ∙ append_assoc before (statistics_text reporters (take k places) items) (statistic_text (name b) (reports b items))
+    ∙ ap (λ (l : List ℕ). before ++ l) (sym (more ∙ ap (λ (o : Option Reporter). statistics_text reporters (take k places) items ++ part_of o items) here))
 
--- the others are as they were
-pub rest_more : {B : Type 0} (old mid : List B) (places : List ℕ) (k p : ℕ) (b : B) → IsDistinct nat_eq places → k < length places → p ≡ slice_index places k
-    → ((j : ℕ) (d : B) → k ≤ j → j < length places → slice_index_or mid (slice_index places j) d ≡ slice_index_or old (slice_index places j) d)
-    → (j : ℕ) (d : B) → k + 1 ≤ j → j < length places → slice_index_or (slice_set mid p b) (slice_index places j) d ≡ slice_index_or old (slice_index places j) d
-rest_more old mid places k p b distinct below this rest j d later within =
-    let apart : (slice_index places j ≡ p) → ⊥ =
-    λ same. let clash : true ≡ false = sym (eq-eqb (slice_index places k) (slice_index places j) (sym (same ∙ this))) ∙ apart_from_distinct nat_eq places k j 0 distinct (omega (arith, later)) within in cc in
-    get_or-set_other mid p (slice_index places j) b d apart ∙ rest j d (omega (arith, later)) within
-
--- what stands at the place
-pub in_list : {B : Type 0} (old mid : List B) (p : ℕ) (b : B) → p < length old → b ≡ slice_index_or mid p b → ((d : B) → slice_index_or mid p d ≡ slice_index_or old p d) → slice_get old p ≡ Some b
-in_list {B = B} old mid p b below at same = slice_get-get_or old p b below ∙ ap (λ (x : B). Some x) (sym (at ∙ same b))
-
--- the next one is as it was
-pub rest_at : {B : Type 0} (old mid : List B) (places : List ℕ) (k p : ℕ) → p ≡ slice_index places k → k < length places
-    → ((j : ℕ) (d : B) → k ≤ j → j < length places → slice_index_or mid (slice_index places j) d ≡ slice_index_or old (slice_index places j) d)
-    → (d : B) → slice_index_or mid p d ≡ slice_index_or old p d
-rest_at old mid places k p this below rest d = rw this (rest k d (omega arith) below)
+-- what a chosen statistic reports, which was fed nothing before
+pub fed_part : {B : Type 0} (name : B → List ℕ) (reports : B → List Item → List ℕ) (fed : B → List Item) (olds news : List B) (places : List ℕ) (k p : ℕ) (items : List Item)
+    (mid after : List ℕ) (b : B) → k < length places → p ≡ slice_index places k → b ≡ slice_index_or news p b
+    → name (slice_index_or news p b) ≡ name (slice_index_or olds p b)
+    → reports (slice_index_or news p b) items ≡ reports (slice_index_or olds p b) items
+    → fed (slice_index_or news p b) ≡ fed (slice_index_or olds p b) ++ items_for places p items → fed (slice_index_or olds p b) ≡ []
+    → after ≡ mid ++ statistic_text (name b) (reports b (fed b)) → after ≡ mid ++ statistic_text (name (slice_index_or olds p b)) (reports (slice_index_or olds p b) items)
+fed_part {B = B} name reports fed olds news places k p items mid after b below this at names rule given unfed added =
+    let chosen : list_any (nat_eq p) places ≡ true =
+    list_any-from_Contains nat_eq_equiv p places (subst (λ (q : ℕ). Contains places q) (sym this) (Contains-get_or places k 0 below)) in
+    let told : fed b ≡ items = ap fed at ∙ given ∙ ap (λ (xs : List Item). xs ++ items_for places p items) unfed ∙ ap (λ (c : Bool). if c then items else []) chosen in
+    added ∙ ap (λ (l : List ℕ). mid ++ l) (ap₂ statistic_text (ap name at ∙ names) (ap (reports b) told ∙ ap (λ (x : B). reports x items) at ∙ rule))

@@ -8,7 +8,7 @@ use Rattle.command_words.specs.declared.fault.WordsFault.TheVariants.{NoMemory}
 use Rattle.command_words.specs.declared.settings.Settings.{Settings}
 use Rattle.command_words.specs.declared.settings.Settings.TheVariants.{Grow, Sample}
 use Rattle.answer_text.specs.Texts.{words_refusal}
-use Rattle.crystal_shell.specs.Statistics.{Kind, names_of}
+use Rattle.crystal_shell.specs.Statistics.{Reporter, names_of}
 use Rattle.crystal_shell.specs.declared.answer.Heard.{Heard}
 use Rattle.crystal_shell.specs.declared.answer.Heard.TheVariants.{Chosen, Refused}
 use Rattle.crystal_shell.specs.Answers.{RefusesWords, Chooses, Hears, Names, faulty, sample, words_refused}
@@ -28,13 +28,13 @@ heard_refusal words names heard k is hears = subst (Hears words names) is hears
 pub heard_choice : (words names : List (List ℕ)) (heard : Heard) (places : List ℕ) → heard ≡ Chosen places → Hears words names heard → Chooses words names places
 heard_choice words names heard places is hears = subst (Hears words names) is hears
 
-pub names_refusal : (kinds : List Kind) (words : List (List ℕ)) (left : Option (List ℕ)) (k s : ℕ) (f : List Event) (x : List ℕ)
-    → RefusesWords words (names_of kinds) (words_refusal k) → s ≡ 1 → f ≡ [] → x ≡ words_refusal k → IfSome left (λ input. Names kinds words input s f x)
-names_refusal kinds words None k s f x refused status front text = tt
-names_refusal kinds words (Some input) k s f x refused status front text =
-    let named : Names kinds words input 1 [] (words_refusal k) = words_refused (words_refusal k) refused in
-    subst (λ (n : ℕ). Names kinds words input n f x) (sym status)
-    (subst (λ (h : List Event). Names kinds words input 1 h x) (sym front) (subst (λ (z : List ℕ). Names kinds words input 1 [] z) (sym text) named))
+pub names_refusal : (reporters : List Reporter) (words : List (List ℕ)) (left : Option (List ℕ)) (k s : ℕ) (f : List Event) (x : List ℕ)
+    → RefusesWords words (names_of reporters) (words_refusal k) → s ≡ 1 → f ≡ [] → x ≡ words_refusal k → IfSome left (λ input. Names reporters words input s f x)
+names_refusal reporters words None k s f x refused status front text = tt
+names_refusal reporters words (Some input) k s f x refused status front text =
+    let named : Names reporters words input 1 [] (words_refusal k) = words_refused (words_refusal k) refused in
+    subst (λ (n : ℕ). Names reporters words input n f x) (sym status)
+    (subst (λ (h : List Event). Names reporters words input 1 h x) (sym front) (subst (λ (z : List ℕ). Names reporters words input 1 [] z) (sym text) named))
 
 -- command words are refused for one reason, and not accepted besides
 pub refuses_once : (words names : List (List ℕ)) (s t : List ℕ) → RefusesWords words names s → RefusesWords words names t → s ≡ t

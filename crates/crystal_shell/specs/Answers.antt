@@ -21,7 +21,7 @@ use Rattle.session_desk.specs.Replies.{replies}
 use Rattle.crystal_characters.specs.Items.{items_of}
 use Rattle.ask_answers.specs.Answers.{AreAnswers}
 use Rattle.answer_text.specs.Texts.{ended, head_line, sessions_text, graph_part, full_line, end_line, words_refusal, job_refusal}
-use Rattle.crystal_shell.specs.Statistics.{Kind, names_of, statistics_text}
+use Rattle.crystal_shell.specs.Statistics.{Reporter, names_of, statistics_text}
 use Rattle.crystal_shell.specs.declared.answer.Heard.{Heard}
 use Rattle.crystal_shell.specs.declared.answer.Heard.TheVariants.{Chosen, Refused}
 
@@ -65,19 +65,19 @@ graph_of job list = finished_graph job.world.space list
 
 -- the status, the history and the text that an input calls for under `grow`, where the statistics at these places are
 -- chosen
-pub data Calls (kinds : List Kind) (places : List ℕ) (input : List ℕ) : ℕ → List Event → List ℕ → Type 0 where
-  too_long : job_limit < length input → Calls kinds places input 2 [] (job_refusal 0 14)
+pub data Gives (reporters : List Reporter) (places : List ℕ) (input : List ℕ) : ℕ → List Event → List ℕ → Type 0 where
+  too_long : job_limit < length input → Gives reporters places input 2 [] (job_refusal 0 14)
   refused : (r : Refusal) → length input ≤ job_limit → judge input ≡ Err r
-      → Calls kinds places input 2 [] (job_refusal r.line (why_number r.why))
+      → Gives reporters places input 2 [] (job_refusal r.line (why_number r.why))
   whole : (job : Job) (list : List ℕ) (front : List Event) (told : List (List Reply)) (answers : List ℕ) → length input ≤ job_limit
       → judge input ≡ Ok job → IsHistory job front told
       → IsComponentList job.world list → (Outnumber job.world → ⊥)
       → AreAnswers (graph_of job list) (slice_index job.starts 0) job.asks answers
-      → Calls kinds places input 0 front
-      (whole_text (graph_of job list) told (statistics_text kinds places (items_of (graph_of job list))) answers)
+      → Gives reporters places input 0 front
+      (whole_text (graph_of job list) told (statistics_text reporters places (items_of (graph_of job list))) answers)
   full : (job : Job) (front : List Event) (told : List (List Reply)) → length input ≤ job_limit
       → judge input ≡ Ok job → IsHistory job front told
-      → Outnumber job.world → Calls kinds places input 3 front (full_text job.world told)
+      → Outnumber job.world → Gives reporters places input 3 front (full_text job.world told)
 
 -- the text that refused command words call for: their first fault, or 8 for a mode that is not served yet
 pub data RefusesWords (words names : List (List ℕ)) : List ℕ → Type 0 where
@@ -112,7 +112,7 @@ ReadsJob before after =
     × (job_limit < length input → TakesExactly (job_limit + 1) before after))
 
 -- the status, the history and the text that command words and an input call for
-pub data Names (kinds : List Kind) (words : List (List ℕ)) (input : List ℕ) : ℕ → List Event → List ℕ → Type 0 where
-  words_refused : (text : List ℕ) → RefusesWords words (names_of kinds) text → Names kinds words input 1 [] text
-  called : (places : List ℕ) (status : ℕ) (front : List Event) (text : List ℕ) → Chooses words (names_of kinds) places
-      → Calls kinds places input status front text → Names kinds words input status front text
+pub data Names (reporters : List Reporter) (words : List (List ℕ)) (input : List ℕ) : ℕ → List Event → List ℕ → Type 0 where
+  words_refused : (text : List ℕ) → RefusesWords words (names_of reporters) text → Names reporters words input 1 [] text
+  called : (places : List ℕ) (status : ℕ) (front : List Event) (text : List ℕ) → Chooses words (names_of reporters) places
+      → Gives reporters places input status front text → Names reporters words input status front text

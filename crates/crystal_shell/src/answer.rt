@@ -25,7 +25,7 @@ pub(crate) enum Heard {
 
 /// What was found in the input.
 #[derive(Drop)]
-pub(crate) enum Found {
+pub(crate) enum Finding {
     /// The job is refused, at this line and with the number of the fault.
     Refused { line: u32, fault: u8 },
     /// A job with more reached words than cells.
@@ -45,7 +45,7 @@ pub(crate) struct Answer {
 
 /// Why there is no answer.
 #[derive(Clone, Copy, Debug, PartialEq, Eq)]
-pub(crate) enum Stop {
+pub(crate) enum NoAnswer {
     /// A read failed.
     ReadFault,
     /// There is no memory.

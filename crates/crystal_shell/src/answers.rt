@@ -6,11 +6,11 @@ ghost use Rattle.session_desk.specs.declared.reply.Reply.{Reply as ReplyType};
 ghost use Rattle.answer_text.specs.Texts.{words_refusal, job_refusal};
 ghost use Rattle.ask_answers.specs.Answers.{AreAnswers};
 ghost use Rattle.crystal_characters.specs.Items.{items_of};
-ghost use Rattle.crystal_shell.specs.Statistics.{Kind, statistics_text};
-ghost use Rattle.crystal_shell.specs.Answers.{Calls, IsHistory, whole_text, full_text};
+ghost use Rattle.crystal_shell.specs.Statistics.{Reporter, statistics_text};
+ghost use Rattle.crystal_shell.specs.Answers.{Gives, IsHistory, whole_text, full_text};
 ghost use Rattle.crystal_shell.specs.Findings.{Finds, IsFound, IsGraph};
 
-use crate::answer::{Answer, Found};
+use crate::answer::{Answer, Finding};
 use crate::sessions::serve;
 use crate::statistics::push_statistics;
 use answer_text::{
@@ -41,7 +41,7 @@ pub(crate) fn refused_words(alloc: Global, fault: u8) -> Result<Answer, NoMemory
 /// The answer to what was found, where the statistics at these places are chosen.
 pub(crate) fn answer(
     alloc: Global,
-    found: Found,
+    found: Finding,
     stats: &mut Vec<Box<dyn Statistic>>,
     places: &Places,
 ) -> Result<Answer, NoMemory>
@@ -50,16 +50,16 @@ pub(crate) fn answer(
     requires below { (k : ℕ) → k < length places.now → slice_index places.now k < length stats.old.items }
     requires unfed { (k : ℕ) (d : _) → k < length stats.old.items → fed (slice_index_or stats.old.items k d) ≡ [] }
     requires short { (k : ℕ) (d : _) → k < length stats.old.items → length (named (slice_index_or stats.old.items k d)) ≤ 64 }
-    ensures answer { let kinds : List Kind = map (λ b. record { name = named b; reports = reported b }) stats.old.items in
+    ensures answer { let reporters : List Reporter = map (λ b. record { name = named b; reports = reported b }) stats.old.items in
         (input : List ℕ) → Finds input found →
-        IfOk result (λ answer. Calls kinds places.now input answer.status answer.front answer.text.items) }
+        IfOk result (λ answer. Gives reporters places.now input answer.status answer.front answer.text.items) }
     ensures low { IfOk result (λ answer. answer.status ≤ 3) }
     ensures job { IfOk result (λ answer. answer.status ≢ 1) }
 {
     match found {
-        Found::Refused { line, fault } => refused_job(alloc, line, fault),
-        Found::Full { job } => full_answer(alloc, job),
-        Found::Whole { job, finished } => whole_answer(alloc, job, &finished, stats, places),
+        Finding::Refused { line, fault } => refused_job(alloc, line, fault),
+        Finding::Full { job } => full_answer(alloc, job),
+        Finding::Whole { job, finished } => whole_answer(alloc, job, &finished, stats, places),
     }
 }
 
@@ -90,10 +90,10 @@ fn whole_answer(
     requires below { (k : ℕ) → k < length places.now → slice_index places.now k < length stats.old.items }
     requires unfed { (k : ℕ) (d : _) → k < length stats.old.items → fed (slice_index_or stats.old.items k d) ≡ [] }
     requires short { (k : ℕ) (d : _) → k < length stats.old.items → length (named (slice_index_or stats.old.items k d)) ≤ 64 }
-    ensures answer { let kinds : List Kind = map (λ b. record { name = named b; reports = reported b }) stats.old.items in
+    ensures answer { let reporters : List Reporter = map (λ b. record { name = named b; reports = reported b }) stats.old.items in
         IfOk result (λ answer. (told : List (List ReplyType)) × (answers : List ℕ) × IsHistory job answer.front told
         × AreAnswers finished.now (slice_index job.starts 0) job.asks answers
-        × (answer.text.items ≡ whole_text finished.now told (statistics_text kinds places.now (items_of finished.now)) answers)) }
+        × (answer.text.items ≡ whole_text finished.now told (statistics_text reporters places.now (items_of finished.now)) answers)) }
     ensures status { IfOk result (λ answer. answer.status ≡ 0) }
 {
     let Job {

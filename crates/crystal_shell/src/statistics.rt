@@ -4,36 +4,36 @@ ghost use Rattle.std.specs.List.{IsDistinct};
 ghost use Rattle.command_words.specs.Judge.{judge_words, IsAnswer, FitsNames};
 ghost use Rattle.answer_text.specs.Texts.{statistic_text};
 ghost use Rattle.crystal_characters.specs.Items.{items_of};
-ghost use Rattle.crystal_shell.specs.Statistics.{Kind, names_of, statistics_text};
+ghost use Rattle.crystal_shell.specs.Statistics.{Reporter, names_of, statistics_text};
 
 use answer_text::push_statistic;
 use canonical_graph::Finished;
-use command_words::{Places, Settings, WordsFault, read_words as read_words_of};
-use crystal_characters::{Statistic, feed_one};
+use command_words::{Places, Settings, WordsFault, read_words};
+use crystal_characters::{Statistic, feed_chosen};
 use crystal_streams::NoMemory;
 use std::alloc::Global;
 
 /// The settings that the command words ask for, or their first fault. A statistic is chosen by its name; of two with
 /// one name it is the first.
-pub(crate) fn read_words(
+pub(crate) fn read_settings(
     alloc: Global,
     words: &[String],
     stats: &[Box<dyn Statistic>],
 ) -> Result<Settings, WordsFault>
-    ensures answer { let kinds : List Kind = map (λ b. record { name = named b; reports = reported b }) stats.now in
-        IsAnswer (judge_words (map string_bytes words.now) (names_of kinds)) result }
+    ensures answer { let reporters : List Reporter = map (λ b. record { name = named b; reports = reported b }) stats.now in
+        IsAnswer (judge_words (map string_bytes words.now) (names_of reporters)) result }
     ensures fits { IfOk result (FitsNames (length stats.now)) }
 {
     match names(alloc, stats) {
-        Ok(names) => read_words_of(alloc, words, names.as_slice()),
+        Ok(names) => read_words(alloc, words, names.as_slice()),
         Err(NoMemory) => Err(WordsFault::NoMemory),
     }
 }
 
 /// The names of the statistics, in order.
 fn names<'a>(alloc: Global, stats: &'a [Box<dyn Statistic>]) -> Result<Vec<&'a str>, NoMemory>
-    ensures names { let kinds : List Kind = map (λ b. record { name = named b; reports = reported b }) stats.now in
-        IfOk result (λ names. map (λ name. name.now) names.items ≡ names_of kinds) }
+    ensures names { let reporters : List Reporter = map (λ b. record { name = named b; reports = reported b }) stats.now in
+        IfOk result (λ names. map (λ name. name.now) names.items ≡ names_of reporters) }
     ensures count { IfOk result (λ names. length names.items ≡ length stats.now) }
 {
     let mut names = Vec::new(alloc);
@@ -61,27 +61,21 @@ pub(crate) fn push_statistics(
     requires below { (k : ℕ) → k < length places.now → slice_index places.now k < length stats.old.items }
     requires unfed { (k : ℕ) (d : _) → k < length stats.old.items → fed (slice_index_or stats.old.items k d) ≡ [] }
     requires short { (k : ℕ) (d : _) → k < length stats.old.items → length (named (slice_index_or stats.old.items k d)) ≤ 64 }
-    ensures { let kinds : List Kind = map (λ b. record { name = named b; reports = reported b }) stats.old.items in
-        OnOk result (out.new.items ≡ out.old.items ++ statistics_text kinds places.now (items_of finished.now)) }
+    ensures { let reporters : List Reporter = map (λ b. record { name = named b; reports = reported b }) stats.old.items in
+        OnOk result (out.new.items ≡ out.old.items ++ statistics_text reporters places.now (items_of finished.now)) }
 {
+    feed_chosen(stats, places.as_slice(), finished)?;
     'places: for k in 0..places.len() {
-        push_report(alloc, out, &mut stats[places.at(k)], finished)?;
+        push_report(alloc, out, &stats[places.at(k)])?;
     }
     Ok(())
 }
 
-/// Feeds a statistic with the vertices, and appends its report.
-fn push_report(
-    alloc: Global,
-    out: &mut Vec<u8>,
-    stat: &mut Box<dyn Statistic>,
-    finished: &Finished,
-) -> Result<(), NoMemory>
-    requires unfed { fed stat.old ≡ [] }
-    requires short { length (named stat.old) ≤ 64 }
-    ensures { OnOk result (out.new.items ≡ out.old.items ++ statistic_text (named stat.old) (reported stat.old (items_of finished.now))) }
+/// Appends the report of a statistic.
+fn push_report(alloc: Global, out: &mut Vec<u8>, stat: &Box<dyn Statistic>) -> Result<(), NoMemory>
+    requires { length (named stat.now) ≤ 64 }
+    ensures { OnOk result (out.new.items ≡ out.old.items ++ statistic_text (named stat.now) (reported stat.now (fed stat.now))) }
 {
-    feed_one(stat, finished)?;
     let mut report = Vec::new(alloc);
     stat.report(&mut report)?;
     push_statistic(out, name_of(stat).as_bytes(), report.as_slice())

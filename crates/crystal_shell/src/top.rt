@@ -4,13 +4,13 @@ ghost use Rattle.std.specs.Io.KnownBytes.{Appends, Keeps};
 ghost use Rattle.command_words.specs.Judge.{judge_words, IsAnswer, FitsNames};
 ghost use Rattle.crystal_streams.specs.Faults.{Rose};
 ghost use Rattle.crystal_streams.specs.Reads.{TakesAtMost};
-ghost use Rattle.crystal_shell.specs.Statistics.{Kind, names_of};
+ghost use Rattle.crystal_shell.specs.Statistics.{Reporter, names_of};
 ghost use Rattle.crystal_shell.specs.Answers.{Names, Hears, Chooses, RefusesWords, AcceptsWords, ReadsJob, FitsPlaces, job_limit};
 
-use crate::answer::{Answer, Heard, Outcome, Stop};
+use crate::answer::{Answer, Heard, NoAnswer, Outcome};
 use crate::answers::{answer, refused_words};
 use crate::findings::find;
-use crate::statistics::read_words;
+use crate::statistics::read_settings;
 use command_words::{Settings, WordsFault};
 use crystal_characters::Statistic;
 use crystal_streams::{NoMemory, Sink, Source, WriteFault, write_all};
@@ -35,32 +35,32 @@ pub fn run<R: Source, W: Sink>(
 ) -> Outcome
     requires unfed { (k : ℕ) (d : _) → k < length stats.items → fed (slice_index_or stats.items k d) ≡ [] }
     requires short { (k : ℕ) (d : _) → k < length stats.items → length (named (slice_index_or stats.items k d)) ≤ 64 }
-    ensures told { let kinds : List Kind = map (λ b. record { name = named b; reports = reported b }) stats.items in
+    ensures told { let reporters : List Reporter = map (λ b. record { name = named b; reports = reported b }) stats.items in
         result.status ≤ 3 → IfSome (R.left source.old) (λ input. (text : List ℕ)
-        × Names kinds (map string_bytes words.now) input result.status result.front text
+        × Names reporters (map string_bytes words.now) input result.status result.front text
         × Appends (W.held sink.old) (W.held sink.new) text) }
-    ensures words { let kinds : List Kind = map (λ b. record { name = named b; reports = reported b }) stats.items in
-        result.status ≤ 3 → (text : List ℕ) → RefusesWords (map string_bytes words.now) (names_of kinds) text →
+    ensures words { let reporters : List Reporter = map (λ b. record { name = named b; reports = reported b }) stats.items in
+        result.status ≤ 3 → (text : List ℕ) → RefusesWords (map string_bytes words.now) (names_of reporters) text →
         (result.status ≡ 1) × Appends (W.held sink.old) (W.held sink.new) text }
-    ensures one { let kinds : List Kind = map (λ b. record { name = named b; reports = reported b }) stats.items in
-        result.status ≡ 1 → (text : List ℕ) × RefusesWords (map string_bytes words.now) (names_of kinds) text }
-    ensures unheard { let kinds : List Kind = map (λ b. record { name = named b; reports = reported b }) stats.items in
-        (text : List ℕ) → RefusesWords (map string_bytes words.now) (names_of kinds) text →
+    ensures one { let reporters : List Reporter = map (λ b. record { name = named b; reports = reported b }) stats.items in
+        result.status ≡ 1 → (text : List ℕ) × RefusesWords (map string_bytes words.now) (names_of reporters) text }
+    ensures unheard { let reporters : List Reporter = map (λ b. record { name = named b; reports = reported b }) stats.items in
+        (text : List ℕ) → RefusesWords (map string_bytes words.now) (names_of reporters) text →
         (source.new ≡ source.old) × (result.front ≡ []) }
-    ensures taken { let kinds : List Kind = map (λ b. record { name = named b; reports = reported b }) stats.items in
-        AcceptsWords (map string_bytes words.now) (names_of kinds) → result.status ≢ 4 → result.status ≢ 6 →
+    ensures taken { let reporters : List Reporter = map (λ b. record { name = named b; reports = reported b }) stats.items in
+        AcceptsWords (map string_bytes words.now) (names_of reporters) → result.status ≢ 4 → result.status ≢ 6 →
         ReadsJob (R.left source.old) (R.left source.new) }
     ensures most { TakesAtMost (job_limit + 1) (R.left source.old) (R.left source.new) }
     ensures later { (R.faults source.old ≤ R.faults source.new)
         × (W.faults sink.old ≤ W.faults sink.new) }
-    ensures read_fault { let kinds : List Kind = map (λ b. record { name = named b; reports = reported b }) stats.items in
-        result.status ≡ 4 → AcceptsWords (map string_bytes words.now) (names_of kinds)
+    ensures read_fault { let reporters : List Reporter = map (λ b. record { name = named b; reports = reported b }) stats.items in
+        result.status ≡ 4 → AcceptsWords (map string_bytes words.now) (names_of reporters)
         × Rose (R.faults source.old) (R.faults source.new)
         × Keeps (W.held sink.old) (W.held sink.new) }
-    ensures write_fault { let kinds : List Kind = map (λ b. record { name = named b; reports = reported b }) stats.items in
+    ensures write_fault { let reporters : List Reporter = map (λ b. record { name = named b; reports = reported b }) stats.items in
         result.status ≡ 5 → Rose (W.faults sink.old) (W.faults sink.new)
         × IfSome (R.left source.old) (λ input. (status : ℕ) × (text : List ℕ) × (n : ℕ)
-        × Names kinds (map string_bytes words.now) input status result.front text
+        × Names reporters (map string_bytes words.now) input status result.front text
         × Appends (W.held sink.old) (W.held sink.new) (take n text)) }
     ensures memory { result.status ≡ 6 → Keeps (W.held sink.old) (W.held sink.new) }
     ensures unserved { (result.status ≡ 4) ⊎ (result.status ≡ 6) → result.front ≡ [] }
@@ -69,8 +69,8 @@ pub fn run<R: Source, W: Sink>(
     let mut stats = stats;
     match find_answer(alloc, words, source, &mut stats) {
         Ok(answer) => write_answer(sink, answer),
-        Err(Stop::ReadFault) => without_answer(4),
-        Err(Stop::NoMemory) => without_answer(6),
+        Err(NoAnswer::ReadFault) => without_answer(4),
+        Err(NoAnswer::NoMemory) => without_answer(6),
     }
 }
 
@@ -113,34 +113,34 @@ fn find_answer<R: Source>(
     words: &[String],
     source: &mut R,
     stats: &mut Vec<Box<dyn Statistic>>,
-) -> Result<Answer, Stop>
+) -> Result<Answer, NoAnswer>
     requires unfed { (k : ℕ) (d : _) → k < length stats.old.items → fed (slice_index_or stats.old.items k d) ≡ [] }
     requires short { (k : ℕ) (d : _) → k < length stats.old.items → length (named (slice_index_or stats.old.items k d)) ≤ 64 }
-    ensures answer { let kinds : List Kind = map (λ b. record { name = named b; reports = reported b }) stats.old.items in
+    ensures answer { let reporters : List Reporter = map (λ b. record { name = named b; reports = reported b }) stats.old.items in
         IfOk result (λ answer. IfSome (R.left source.old) (λ input.
-        Names kinds (map string_bytes words.now) input answer.status answer.front answer.text.items)) }
+        Names reporters (map string_bytes words.now) input answer.status answer.front answer.text.items)) }
     ensures low { IfOk result (λ answer. answer.status ≤ 3) }
-    ensures words { let kinds : List Kind = map (λ b. record { name = named b; reports = reported b }) stats.old.items in
-        (text : List ℕ) → RefusesWords (map string_bytes words.now) (names_of kinds) text →
+    ensures words { let reporters : List Reporter = map (λ b. record { name = named b; reports = reported b }) stats.old.items in
+        (text : List ℕ) → RefusesWords (map string_bytes words.now) (names_of reporters) text →
         IfOk result (λ answer. (answer.status ≡ 1) × (answer.front ≡ []) × (answer.text.items ≡ text)) }
-    ensures one { let kinds : List Kind = map (λ b. record { name = named b; reports = reported b }) stats.old.items in
+    ensures one { let reporters : List Reporter = map (λ b. record { name = named b; reports = reported b }) stats.old.items in
         IfOk result (λ answer. answer.status ≡ 1 →
-        RefusesWords (map string_bytes words.now) (names_of kinds) answer.text.items) }
-    ensures unread { let kinds : List Kind = map (λ b. record { name = named b; reports = reported b }) stats.old.items in
-        (text : List ℕ) → RefusesWords (map string_bytes words.now) (names_of kinds) text →
+        RefusesWords (map string_bytes words.now) (names_of reporters) answer.text.items) }
+    ensures unread { let reporters : List Reporter = map (λ b. record { name = named b; reports = reported b }) stats.old.items in
+        (text : List ℕ) → RefusesWords (map string_bytes words.now) (names_of reporters) text →
         source.new ≡ source.old }
-    ensures taken { let kinds : List Kind = map (λ b. record { name = named b; reports = reported b }) stats.old.items in
-        AcceptsWords (map string_bytes words.now) (names_of kinds) →
+    ensures taken { let reporters : List Reporter = map (λ b. record { name = named b; reports = reported b }) stats.old.items in
+        AcceptsWords (map string_bytes words.now) (names_of reporters) →
         OnOk result (ReadsJob (R.left source.old) (R.left source.new)) }
     ensures most { TakesAtMost (job_limit + 1) (R.left source.old) (R.left source.new) }
     ensures later { R.faults source.old ≤ R.faults source.new }
-    ensures read_fault { let kinds : List Kind = map (λ b. record { name = named b; reports = reported b }) stats.old.items in
-        IsErrOf result Stop.ReadFault → AcceptsWords (map string_bytes words.now) (names_of kinds)
+    ensures read_fault { let reporters : List Reporter = map (λ b. record { name = named b; reports = reported b }) stats.old.items in
+        IsErrOf result NoAnswer.ReadFault → AcceptsWords (map string_bytes words.now) (names_of reporters)
         × Rose (R.faults source.old) (R.faults source.new) }
 {
     let heard = match hear(alloc, words, stats.as_slice()) {
         Ok(heard) => heard,
-        Err(NoMemory) => return Err(Stop::NoMemory),
+        Err(NoMemory) => return Err(NoAnswer::NoMemory),
     };
     let places = match heard {
         Heard::Chosen { places } => places,
@@ -153,23 +153,23 @@ fn find_answer<R: Source>(
 }
 
 /// An answer, or the stop where memory is short.
-fn or_stop(answer: Result<Answer, NoMemory>) -> Result<Answer, Stop>
+fn or_stop(answer: Result<Answer, NoMemory>) -> Result<Answer, NoAnswer>
     ensures ok { IfOk result (λ found. answer ≡ Ok found) }
-    ensures stop { IfErr result (λ stop. stop ≡ Stop.NoMemory) }
+    ensures stop { IfErr result (λ stop. stop ≡ NoAnswer.NoMemory) }
 {
     match answer {
         Ok(found) => Ok(found),
-        Err(NoMemory) => Err(Stop::NoMemory),
+        Err(NoMemory) => Err(NoAnswer::NoMemory),
     }
 }
 
 /// What the command words say.
 fn hear(alloc: Global, words: &[String], stats: &[Box<dyn Statistic>]) -> Result<Heard, NoMemory>
-    ensures heard { let kinds : List Kind = map (λ b. record { name = named b; reports = reported b }) stats.now in
-        IfOk result (Hears (map string_bytes words.now) (names_of kinds)) }
+    ensures heard { let reporters : List Reporter = map (λ b. record { name = named b; reports = reported b }) stats.now in
+        IfOk result (Hears (map string_bytes words.now) (names_of reporters)) }
     ensures fits { IfOk result (FitsPlaces (length stats.now)) }
 {
-    match read_words(alloc, words, stats) {
+    match read_settings(alloc, words, stats) {
         Ok(settings) => Ok(heard_of(settings)),
         Err(fault) => heard_fault(fault),
     }

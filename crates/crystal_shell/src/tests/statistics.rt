@@ -1,7 +1,7 @@
-//! Statistics: their reports behind the graph, and how often they are fed and dropped.
+//! How often statistics are fed and dropped.
 ghost use Rattle.std.specs.Prelude.{◌≡◌, [], IfOk};
 
-use super::{A2, ROOM, job, ran, strings};
+use super::{ROOM, job, strings};
 use crate::top::run;
 use crystal_characters::{Item, Statistic};
 use crystal_streams::{MemorySink, MemorySource, NoMemory};
@@ -9,41 +9,6 @@ use std::alloc::{AllocError, Global};
 use std::cell::Cell;
 use std::rc::Rc;
 use std::test::Fail;
-
-/// The first job's answer, from what stands between its graph and its last line.
-fn answer_with(alloc: Global, parts: &str) -> Result<Vec<u8>, AllocError> {
-    let mut bytes = A2.as_bytes().to_vec(alloc)?;
-    bytes.truncate(A2.len().saturating_sub(4));
-    bytes.extend_from_slice(parts.as_bytes())?;
-    bytes.extend_from_slice(b"end\n")?;
-    Ok(bytes)
-}
-
-#[test]
-fn statistics(rt: HostRuntime) -> Result<(), Fail> {
-    let alloc = rt.alloc();
-    for (words, parts) in [
-        (
-            ["grow", "2", "character"].as_slice(),
-            "statistic character\n2 1 0 | 1\n2 0 1 | 1\n1 2 0 | 1\n1 1 1 | 2\n1 0 2 | 1\n0 2 1 | 1\n\
-             0 1 2 | 1\n",
-        ),
-        (
-            ["grow", "2", "strings", "ends"].as_slice(),
-            "statistic strings\n1 | 4 | 2\n2 | 4 | 2\nstatistic ends\n6\n",
-        ),
-        (
-            ["grow", "1", "ends", "strings"].as_slice(),
-            "statistic ends\n6\nstatistic strings\n1 | 4 | 2\n2 | 4 | 2\n",
-        ),
-    ] {
-        let input = job(alloc, "type A 2\nshape 2 1\ncells 8\n")?;
-        let (ended, output) = ran(alloc, words, input.as_slice())?;
-        assert_eq!(rt; ended, 0);
-        assert_eq!(rt; output.as_slice(), answer_with(alloc, parts)?.as_slice());
-    }
-    Ok(())
-}
 
 /// A statistic that reports nothing, and counts how often it is fed and dropped.
 struct Counted {

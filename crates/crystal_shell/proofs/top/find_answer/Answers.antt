@@ -1,7 +1,7 @@
 use Rattle.std.proofs.Common.{map, string_bytes, subst}
 use Rattle.crystal_shell.specs.Statistics.{names_of}
 use Rattle.crystal_shell.specs.Answers.{Hears}
-use Rattle.crystal_shell.proofs.Calls.{names_found}
+use Rattle.crystal_shell.proofs.Given.{names_found}
 use Rattle.crystal_shell.proofs.Results.{ok_maps, ok_through}
 use Rattle.crystal_shell.proofs.Words.{heard_choice, heard_refusal, names_refusal, not_both}
 use Rattle.crystal_shell.proofs.top.find_answer.Goals as goal

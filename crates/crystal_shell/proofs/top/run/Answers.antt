@@ -1,6 +1,6 @@
 use Rattle.std.proofs.Common.{◌≡◌, ◌∙◌, List, ℕ, map, string_bytes, subst, inl, inr, arith}
 use Rattle.std.specs.Io.KnownBytes.{Appends}
-use Rattle.crystal_shell.proofs.Calls.{named_whole, named_front}
+use Rattle.crystal_shell.proofs.Given.{named_whole, named_front}
 use Rattle.crystal_shell.proofs.top.run.Goals as goal
 
 pub returns-in-Ok-clause-told : goal.returns-in-Ok-clause-told
