@@ -8,7 +8,8 @@ use Rattle.tableau_reading.specs.Readings.{top_word}
 use Rattle.tableau_reading.specs.Texts.{word_text, weight_text}
 use Rattle.canonical_graph.specs.Graphs.{FinishedType}
 use Rattle.canonical_graph.specs.Texts.{bar, vertex_word}
-use Rattle.answer_text.specs.Texts.{ended, numbered}
+use Rattle.crystal_streams.specs.Lines.{ended}
+use Rattle.answer_text.specs.Texts.{numbered}
 
 -- numbers in decimal, each with a blank in front of it
 abbrev pub listed : List ℕ → List ℕ

@@ -1,6 +1,7 @@
 -- The parts of the answer text. Each line ends with byte 10.
 use Rattle.std.specs.Prelude.{ℕ, ◌+◌, List, [], ◌∷◌, ◌++◌, length, codes, decimal}
 use Rattle.std.specs.List.{flat_map, range_with_len}
+use Rattle.crystal_streams.specs.Lines.{ended}
 use Rattle.crystal_cartan.specs.Types.{CartanType}
 use Rattle.crystal_cartan.specs.declared.types.Kind.{Kind}
 use Rattle.crystal_cartan.specs.declared.types.Kind.TheVariants.{A, B, C, D}
@@ -9,10 +10,6 @@ use Rattle.canonical_graph.specs.Graphs.{FinishedType, arrow_count}
 use Rattle.canonical_graph.specs.Texts.{vertex_text}
 use Rattle.session_desk.specs.declared.reply.Reply.{Reply}
 use Rattle.session_desk.specs.Texts.{reply_text}
-
--- a line with its end
-abbrev pub ended : List ℕ → List ℕ
-ended line = line ++ 10 ∷ []
 
 -- the texts of the elements of a list one after another, each with its number, the first with the number n
 abbrev pub numbered : {E : Type 0} → (ℕ → E → List ℕ) → ℕ → List E → List ℕ
@@ -25,9 +22,13 @@ kind_text B = codes "B"
 kind_text C = codes "C"
 kind_text D = codes "D"
 
+-- a first word, with the blank behind it, and the kind and the rank
+unfoldable pub type_line : List ℕ → CartanType → List ℕ
+type_line word t = word ++ kind_text t.kind ++ 32 ∷ decimal t.rank
+
 -- the first line: the kind and the rank
-unfoldable pub head_line : CartanType → List ℕ
-head_line t = codes "crystal " ++ kind_text t.kind ++ 32 ∷ decimal t.rank
+abbrev pub head_line : CartanType → List ℕ
+head_line t = type_line (codes "crystal ") t
 
 -- the line that tells the number of a session
 unfoldable pub session_head : ℕ → List ℕ

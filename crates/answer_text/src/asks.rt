@@ -5,13 +5,14 @@ ghost use Rattle.crystal_cartan.specs.Types.{HasIndex};
 ghost use Rattle.crystal_cartan.specs.Weights.{IsSmall};
 ghost use Rattle.tableau_reading.specs.Texts.{word_text};
 ghost use Rattle.canonical_graph.specs.Texts.{vertex_word};
-ghost use Rattle.answer_text.specs.Texts.{ended, numbered};
+ghost use Rattle.crystal_streams.specs.Lines.{ended};
+ghost use Rattle.answer_text.specs.Texts.{numbered};
 ghost use Rattle.answer_text.specs.Asks.{listed, product_text, demazure_head, member_line, demazure_text, tops_head, shape_text, top_line, tops_text, reflection_head, image_line, reflection_text};
 
-use crate::lines::{print_behind_blank, push_line};
+use crate::lines::print_behind_blank;
 use canonical_graph::Finished;
 use crystal_cartan::Weight;
-use crystal_streams::{Line, NoMemory};
+use crystal_streams::{Line, NoMemory, push_line};
 use tableau_reading::{Shape, print_weight, print_word};
 use tensor_words::Order;
 

@@ -2,11 +2,11 @@
 ghost use Rattle.std.specs.Prelude.{◌≡◌, ◌≤◌, ◌<◌, ◌++◌, length, pos, OnOk};
 ghost use Rattle.canonical_graph.specs.Graphs.{arrow_count};
 ghost use Rattle.canonical_graph.specs.Texts.{vertex_text};
-ghost use Rattle.answer_text.specs.Texts.{ended, graph_head, vertex_lines, graph_part, full_line, statistic_head, statistic_text};
+ghost use Rattle.crystal_streams.specs.Lines.{ended};
+ghost use Rattle.answer_text.specs.Texts.{graph_head, vertex_lines, graph_part, full_line, statistic_head, statistic_text};
 
-use crate::lines::push_line;
 use canonical_graph::Finished;
-use crystal_streams::{Line, NoMemory};
+use crystal_streams::{Line, NoMemory, push_line};
 
 /// Appends a graph: `graph V E`, the numbers of vertices and of f arrows, and a line for each vertex in ascending
 /// rank, `RANK | WORD | WEIGHT | ARROWS`.

@@ -1,24 +1,34 @@
-//! The first and the last line of an answer, and the one line of a refusal.
-ghost use Rattle.std.specs.Prelude.{◌≡◌, ◌++◌, OnOk};
-ghost use Rattle.answer_text.specs.Texts.{ended, head_line, end_line, words_refusal_line, words_refusal, job_refusal_line, job_refusal};
+//! The first and the last line of a text, and the one line of a refusal.
+ghost use Rattle.std.specs.Prelude.{◌≡◌, ◌≤◌, ◌++◌, length, OnOk};
+ghost use Rattle.crystal_streams.specs.Lines.{ended};
+ghost use Rattle.answer_text.specs.Texts.{type_line, head_line, end_line, words_refusal_line, words_refusal, job_refusal_line, job_refusal};
+ghost use Rattle.answer_text.specs.Modes.{census_line};
 
-use crate::lines::push_line;
 use crystal_cartan::{Cartan, Kind};
-use crystal_streams::{Line, NoMemory};
+use crystal_streams::{Line, NoMemory, push_line};
 
 /// Appends the first line: `crystal K R`, the kind and the rank.
 pub fn push_head(out: &mut Vec<u8>, cartan: Cartan) -> Result<(), NoMemory>
     ensures { OnOk result (out.new.items ≡ out.old.items ++ ended (head_line cartan)) }
 {
-    push_line(out, &head(cartan))
+    push_line(out, &type_line(b"crystal ", cartan))
 }
 
-#[tactic(auto, unfolding(crate::specs::Texts::head_line))]
-fn head(cartan: Cartan) -> Line
-    ensures { result ≡ head_line cartan }
+/// Appends the first line of a census: `census K R`, the kind and the rank.
+pub fn push_census_head(out: &mut Vec<u8>, cartan: Cartan) -> Result<(), NoMemory>
+    ensures { OnOk result (out.new.items ≡ out.old.items ++ ended (census_line cartan)) }
+{
+    push_line(out, &type_line(b"census ", cartan))
+}
+
+/// The first word of a text, with the blank behind it, and a kind and a rank.
+#[tactic(auto, unfolding(crate::specs::Texts::type_line))]
+fn type_line(word: &[u8], cartan: Cartan) -> Line
+    requires { length word.now ≤ 8 }
+    ensures { result ≡ type_line word.now cartan }
 {
     let mut line = Line::new();
-    line.text(b"crystal ");
+    line.text(word);
     line.text(match cartan.kind() {
         Kind::A => b"A",
         Kind::B => b"B",

@@ -1,17 +1,7 @@
-//! A line behind the text, and numbers in a line.
-ghost use Rattle.std.specs.Prelude.{◌≡◌, ◌+◌, ◌≤◌, ◌<◌, ◌++◌, ◌∷◌, OnOk, length, decimal};
-ghost use Rattle.answer_text.specs.Texts.{ended};
+//! Numbers in a line.
+ghost use Rattle.std.specs.Prelude.{◌≡◌, ◌+◌, ◌≤◌, ◌<◌, ◌++◌, ◌∷◌, length, decimal};
 
-use crystal_streams::{Line, NoMemory};
-
-/// Appends the line and its end to the text.
-pub(crate) fn push_line(out: &mut Vec<u8>, line: &Line) -> Result<(), NoMemory>
-    ensures { OnOk result (out.new.items ≡ out.old.items ++ ended line.now) }
-{
-    out.extend_from_slice(line.bytes())?;
-    out.push(b'\n')?;
-    Ok(())
-}
+use crystal_streams::Line;
 
 /// Appends a blank and a number in decimal to a line.
 pub(crate) fn print_behind_blank(number: u8, line: &mut Line)

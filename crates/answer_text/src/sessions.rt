@@ -3,8 +3,7 @@ ghost use Rattle.std.specs.Prelude.{◌≡◌, ℕ, ◌^◌, ◌<◌, ◌++◌, 
 ghost use Rattle.session_desk.specs.Texts.{IsPrintable, reply_text};
 ghost use Rattle.answer_text.specs.Texts.{session_head, reply_lines, session_text, sessions_text};
 
-use crate::lines::push_line;
-use crystal_streams::{Line, NoMemory};
+use crystal_streams::{Line, NoMemory, push_line};
 use session_desk::{Replies, Reply, reply_line};
 use tensor_words::Space;
 

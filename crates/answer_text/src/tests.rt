@@ -6,7 +6,7 @@ ghost use Rattle.tensor_words.specs.Spaces.{size};
 
 use super::*;
 use canonical_graph::{Finished, grow_plain};
-use crystal_cartan::{Cartan, Kind, Weight};
+use crystal_cartan::{Arrow, Cartan, Kind, Weight};
 use crystal_streams::NoMemory;
 use session_desk::{Replies, Reply};
 use std::alloc::Global;
@@ -189,6 +189,43 @@ fn single_lines(rt: HostRuntime) -> Result<(), Fail> {
     assert_eq!(rt;
         out.as_slice(),
         "full\nstatistic ends\n6\nrefused words 2\nrefused job line 0 fault 14\n".as_bytes()
+    );
+    Ok(())
+}
+
+/// Appends the words of a space that have these codes, where they do.
+fn push_some(out: &mut Vec<u8>, space: &Space, codes: &[u64]) -> Result<(), NoMemory> {
+    if are_codes(space.size(), codes) {
+        push_tableaux(out, space, codes)?;
+    }
+    Ok(())
+}
+
+fn are_codes(size: u64, codes: &[u64]) -> bool
+    ensures { IsTrue result → All (λ code. code < size) codes.now }
+{
+    codes.iter().all(|code| *code < size)
+}
+
+#[test]
+fn censuses_and_matches(rt: HostRuntime) -> Result<(), Fail> {
+    let cartan = Cartan::new(Kind::A, 1)?;
+    let mut out = Vec::new(rt.alloc());
+    push_census_head(&mut out, cartan)?;
+    push_some(&mut out, &Space::new(cartan, &[V, V])?, &[0, 2])?;
+    push_same(&mut out, 8)?;
+    let down = Arrow {
+        down: true,
+        index: 1,
+    };
+    let up = Arrow {
+        down: false,
+        index: 2,
+    };
+    push_differs(&mut out, &[down, up])?;
+    assert_eq!(rt;
+        out.as_slice(),
+        "census A 1\ntableaux 2\n1 1\n2 1\nsame 8\ndiffers f1 e2\n".as_bytes()
     );
     Ok(())
 }

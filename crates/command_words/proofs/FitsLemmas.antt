@@ -1,15 +1,23 @@
 -- What every settings of accepted words keep: the range of the growers, and different places of names.
 use Rattle.std.proofs.Common.{◌≡◌, ◌∙◌, ◌<◌, ◌≤◌, ◌||◌, ◌&&◌, ℕ, Bool, true, false, zero, suc, refl, sym, ap, subst, arith, List, [], ◌∷◌, ◌++◌, length, Option, Some, None, Result, Ok, Err, IfOk, codes, bytes_eq, nat_eq, get_or, leb-true, eqb-true, true≢false, cond, inl, inr}
 use Rattle.std.specs.Str.Parse.{digits_value}
-use Rattle.command_words.specs.declared.fault.WordsFault.TheVariants.{Dashed, UnknownMode}
+use Rattle.command_words.specs.declared.fault.WordsFault.TheVariants.{BadMatch, Dashed, UnknownMode}
 use Rattle.std.specs.List.{AllByRecursion, IsDistinct, list_any}
 use Rattle.std.proofs.lemmas.List.Quantifiers.{position-Some}
 use Rattle.std.proofs.lemmas.Slice.Eq.{bytes_eq-Decides}
 use Rattle.std.proofs.lemmas.List.Folds.{list_any-append}
 use Rattle.command_words.specs.Number.{is_between, is_numeral, number_in}
-use Rattle.command_words.specs.Judge.{FitsNames, IsAnswer, Text, has_word, is_dashed, judge_grow, judge_mode, judge_plain, judge_sample, judge_words, grow_with, place_named, place_or_fault, places_named, sample_with, with_place}
+use Rattle.command_words.specs.Judge.{FitsNames, IsAnswer, Text, has_word, is_dashed, census_in, census_of, judge_census, judge_grow, judge_match, judge_mode, judge_plain, judge_sample, judge_words, grow_with, place_named, place_or_fault, places_named, row_numbers, sample_with, with_place}
 use Rattle.command_words.specs.declared.fault.WordsFault.{WordsFault}
 use Rattle.command_words.specs.declared.settings.Settings.{Settings}
+use Rattle.command_words.specs.declared.settings.Settings.TheVariants.{Match}
+use Rattle.command_words.specs.declared.settings.Relabelling.TheVariants.{Same, Star}
+use Rattle.crystal_cartan.specs.Types.{CartanType, IsCartan}
+use Rattle.crystal_cartan.specs.declared.types.Kind.TheVariants.{A}
+use Rattle.tensor_words.specs.declared.spaces.Order.TheVariants.{Standard}
+use Rattle.command_words.proofs.ShapeLemmas.{shape_made}
+use Rattle.tableau_reading.specs.Shapes.{IsShape, ShapeType, shape_of}
+use Rattle.tableau_reading.specs.declared.shapes.ShapeFault.{ShapeFault}
 
 -- ---- one word
 
@@ -79,10 +87,10 @@ places_below names seen (place ∷ places) fresh (suc k) inside = places_below n
 
 -- ---- the settings
 
-in_range : (low high : ℕ) (text : Text) (n : ℕ) → number_in low high text ≡ Some n → (low ≤ n) × (n ≤ high)
-in_range low high text n is = go (is_numeral text && is_between low high (digits_value 10 text)) refl is
+in_range : (most low high : ℕ) (text : Text) (n : ℕ) → number_in most low high text ≡ Some n → (low ≤ n) × (n ≤ high)
+in_range most low high text n is = go (is_numeral most text && is_between low high (digits_value 10 text)) refl is
   where
-    go : (b : Bool) → (is_numeral text && is_between low high (digits_value 10 text)) ≡ b → cond b (Some (digits_value 10 text)) None ≡ Some n → (low ≤ n) × (n ≤ high)
+    go : (b : Bool) → (is_numeral most text && is_between low high (digits_value 10 text)) ≡ b → cond b (Some (digits_value 10 text)) None ≡ Some n → (low ≤ n) × (n ≤ high)
     go false tested same = absurd cc
     go true tested same =
         let value : digits_value 10 text ≡ n = cc in
@@ -105,20 +113,45 @@ grow_fits names (Some n) more range = go (places_named names [] more) refl
 sample_fits : (count : ℕ) (growers : Option ℕ) (more : List Text) → IsRange growers → IfOk (judge_sample growers more) (FitsNames count)
 sample_fits count None more range = tt
 sample_fits count (Some n) [] range = tt
-sample_fits count (Some n) (word ∷ []) range = go (number_in 0 4294967295 word)
+sample_fits count (Some n) (word ∷ []) range = go (number_in 10 0 4294967295 word)
   where
     go : (number : Option ℕ) → IfOk (sample_with n number) (FitsNames count)
     go None = tt
     go (Some number) = range n refl
 sample_fits count (Some n) (word ∷ second ∷ more) range = tt
 
-mode_fits : (names : List Text) (mode growers : Text) (more : List Text) → IfOk (judge_mode names mode growers more) (FitsNames (length names))
-mode_fits names mode growers more = go (bytes_eq mode (codes "grow")) (bytes_eq mode (codes "sample"))
+census_of_fits : (count : ℕ) (r : Result ShapeType ShapeFault) (t : CartanType) (rows : List ℕ) → IsCartan t → t.kind ≡ A → shape_of t rows ≡ r → IfOk (census_of r) (FitsNames count)
+census_of_fits count (Err fault) t rows cartan kind is = tt
+census_of_fits count (Ok shape) t rows cartan kind is =
+    let made = shape_made t rows shape cartan is in
+    (made.0, ap (λ (c : CartanType). c.kind) made.1 ∙ kind, made.2)
+
+census_fits : (count : ℕ) (rank : Option ℕ) (rows : Option (List ℕ)) → ((n : ℕ) → rank ≡ Some n → (1 ≤ n) × (n ≤ 8)) → IfOk (census_in rank rows) (FitsNames count)
+census_fits count None rows range = tt
+census_fits count (Some n) None range = tt
+census_fits count (Some n) (Some rows) range =
+    census_of_fits count (shape_of (record { kind = A; rank = n }) rows) (record { kind = A; rank = n }) rows
+    (record { low = (range n refl).0; high = (range n refl).1 }) refl refl
+
+match_fits : (count : ℕ) (word : Text) (more : List Text) → IfOk (judge_match word more) (FitsNames count)
+match_fits count word [] = go (bytes_eq word (codes "same")) (bytes_eq word (codes "star"))
   where
-    go : (grows samples : Bool) → IfOk (cond grows (judge_grow names (number_in 1 16 growers) more) (cond samples (judge_sample (number_in 1 16 growers) more) (Err UnknownMode))) (FitsNames (length names))
-    go true samples = grow_fits names (number_in 1 16 growers) more (in_range 1 16 growers)
-    go false true = sample_fits (length names) (number_in 1 16 growers) more (in_range 1 16 growers)
+    go : (same star : Bool) → IfOk (cond same (Ok (Match Same)) (cond star (Ok (Match Star)) (Err BadMatch))) (FitsNames count)
+    go true star = tt
+    go false true = tt
     go false false = tt
+match_fits count word (other ∷ more) = tt
+
+mode_fits : (names : List Text) (mode second : Text) (more : List Text) → IfOk (judge_mode names mode second more) (FitsNames (length names))
+mode_fits names mode second more = go (bytes_eq mode (codes "grow")) (bytes_eq mode (codes "sample")) (bytes_eq mode (codes "census")) (bytes_eq mode (codes "match"))
+  where
+    go : (grows samples lists compares : Bool) → IfOk (cond grows (judge_grow names (number_in 10 1 16 second) more) (cond samples (judge_sample (number_in 10 1 16 second) more)
+        (cond lists (judge_census second more) (cond compares (judge_match second more) (Err UnknownMode))))) (FitsNames (length names))
+    go true samples lists compares = grow_fits names (number_in 10 1 16 second) more (in_range 10 1 16 second)
+    go false true lists compares = sample_fits (length names) (number_in 10 1 16 second) more (in_range 10 1 16 second)
+    go false false true compares = census_fits (length names) (number_in 9 1 8 second) (row_numbers more) (in_range 9 1 8 second)
+    go false false false true = match_fits (length names) second more
+    go false false false false = tt
 
 judged_fits : (words names : List Text) → IfOk (judge_words words names) (FitsNames (length names))
 judged_fits words names = go (list_any is_dashed words) words
@@ -127,7 +160,7 @@ judged_fits words names = go (list_any is_dashed words) words
     go true ws = tt
     go false [] = tt
     go false (mode ∷ []) = tt
-    go false (mode ∷ growers ∷ more) = mode_fits names mode growers more
+    go false (mode ∷ second ∷ more) = mode_fits names mode second more
 
 pub answer_fits : (words names : List Text) (r : Result Settings WordsFault) (count : ℕ) → length names ≡ count → IsAnswer (judge_words words names) r → IfOk r (FitsNames count)
 answer_fits words names r count many (inl is) = rw (is, ← many) (judged_fits words names)

@@ -3,3 +3,5 @@ mod FitsLemmas
 mod LineLemmas
 mod NumberLemmas
 mod PlacesLemmas
+mod RowLemmas
+mod ShapeLemmas

@@ -14,11 +14,11 @@ both true b is = (refl, is)
 both false b is = absurd (true≢false (sym is))
 
 -- a text of digits that is refused writes too large a number
-pub none_parsed : {E : Type 0} (low high : ℕ) (text : List ℕ) (r : Result ℕ E) (e : E) → high < 2 ^ 32 → ParsesUnsigned 32 10 text r → r ≡ Err e → is_numeral text ≡ true
-    → None ≡ number_in low high text
-none_parsed low high text r e top parsed refused numeral = go (is_between low high (digits_value 10 text)) refl
+pub none_parsed : {E : Type 0} (most low high : ℕ) (text : List ℕ) (r : Result ℕ E) (e : E) → high < 2 ^ 32 → ParsesUnsigned 32 10 text r → r ≡ Err e → is_numeral most text ≡ true
+    → None ≡ number_in most low high text
+none_parsed most low high text r e top parsed refused numeral = go (is_between low high (digits_value 10 text)) refl
   where
-    go : (fits : Bool) → is_between low high (digits_value 10 text) ≡ fits → None ≡ number_in low high text
+    go : (fits : Bool) → is_between low high (digits_value 10 text) ≡ fits → None ≡ number_in most low high text
     go false is = rw (numeral, is) refl
     go true is =
         let parts = both _ _ numeral in

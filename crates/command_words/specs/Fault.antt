@@ -4,7 +4,7 @@ use Rattle.command_words.specs.declared.fault.WordsFault.{WordsFault}
 use Rattle.command_words.specs.declared.fault.WordsFault.TheVariants.{Dashed, Missing, UnknownMode}
 use Rattle.command_words.specs.declared.fault.WordsFault.TheVariants.{BadGrowers, UnknownStatistic}
 use Rattle.command_words.specs.declared.fault.WordsFault.TheVariants.{RepeatedStatistic, BadSample}
-use Rattle.command_words.specs.declared.fault.WordsFault.TheVariants.{NoMemory}
+use Rattle.command_words.specs.declared.fault.WordsFault.TheVariants.{BadCensus, BadMatch, NoMemory}
 
 -- the number that the program prints for the fault
 abbrev pub fault_number : WordsFault → Option ℕ
@@ -15,4 +15,6 @@ fault_number BadGrowers = Some 4
 fault_number UnknownStatistic = Some 5
 fault_number RepeatedStatistic = Some 6
 fault_number BadSample = Some 7
+fault_number BadCensus = Some 9
+fault_number BadMatch = Some 10
 fault_number NoMemory = None

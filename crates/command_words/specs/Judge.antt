@@ -8,9 +8,14 @@ use Rattle.command_words.specs.declared.fault.WordsFault.{WordsFault}
 use Rattle.command_words.specs.declared.fault.WordsFault.TheVariants.{Dashed, Missing, UnknownMode}
 use Rattle.command_words.specs.declared.fault.WordsFault.TheVariants.{BadGrowers, UnknownStatistic}
 use Rattle.command_words.specs.declared.fault.WordsFault.TheVariants.{RepeatedStatistic, BadSample}
-use Rattle.command_words.specs.declared.fault.WordsFault.TheVariants.{NoMemory}
+use Rattle.command_words.specs.declared.fault.WordsFault.TheVariants.{BadCensus, BadMatch, NoMemory}
+use Rattle.command_words.specs.declared.settings.Relabelling.TheVariants.{Same, Star}
 use Rattle.command_words.specs.declared.settings.Settings.{Settings}
-use Rattle.command_words.specs.declared.settings.Settings.TheVariants.{Grow, Sample}
+use Rattle.command_words.specs.declared.settings.Settings.TheVariants.{Grow, Sample, Census, Match}
+use Rattle.crystal_cartan.specs.declared.types.Kind.TheVariants.{A}
+use Rattle.tensor_words.specs.declared.spaces.Order.TheVariants.{Standard}
+use Rattle.tableau_reading.specs.Shapes.{ShapeType, IsShape, shape_of}
+use Rattle.tableau_reading.specs.declared.shapes.ShapeFault.{ShapeFault}
 
 -- a word, or the name of a statistic, as its bytes
 abbrev pub Text : Type 0
@@ -69,25 +74,65 @@ sample_with growers (Some number) = Ok (Sample growers number)
 -- `sample` by the number of growers, if it is one, and the further words
 abbrev pub judge_sample : Option ℕ → List Text → Result Settings WordsFault
 judge_sample None more = Err BadGrowers
-judge_sample (Some growers) (word ∷ []) = sample_with growers (number_in 0 4294967295 word)
+judge_sample (Some growers) (word ∷ []) = sample_with growers (number_in 10 0 4294967295 word)
 judge_sample (Some growers) more = Err BadSample
 
--- the mode, the number of growers and the further words
+-- the length of a row, where the word is one to nine digits
+abbrev pub row_number : Text → Option ℕ
+row_number word = number_in 9 0 999999999 word
+
+-- one length and those after it
+abbrev pub with_row : Option ℕ → Option (List ℕ) → Option (List ℕ)
+with_row None others = None
+with_row (Some length) None = None
+with_row (Some length) (Some lengths) = Some (length ∷ lengths)
+
+-- the lengths of all rows, where each word is one
+abbrev pub row_numbers : List Text → Option (List ℕ)
+row_numbers [] = Some []
+row_numbers (word ∷ rest) = with_row (row_number word) (row_numbers rest)
+
+-- the census of a shape, if it is one
+abbrev pub census_of : Result ShapeType ShapeFault → Result Settings WordsFault
+census_of (Ok shape) = Ok (Census shape)
+census_of (Err fault) = Err BadCensus
+
+-- the census of the shape of type A with this rank and these rows, if they are numbers
+abbrev pub census_in : Option ℕ → Option (List ℕ) → Result Settings WordsFault
+census_in None rows = Err BadCensus
+census_in (Some rank) None = Err BadCensus
+census_in (Some rank) (Some rows) = census_of (shape_of (record { kind = A; rank = rank }) rows)
+
+-- `census` by the rank, 1 to 8, and the lengths of the rows
+abbrev pub judge_census : Text → List Text → Result Settings WordsFault
+judge_census rank rows = census_in (number_in 9 1 8 rank) (row_numbers rows)
+
+-- `match` by its one word
+abbrev pub judge_match : Text → List Text → Result Settings WordsFault
+judge_match word [] =
+    if bytes_eq word (codes "same") then Ok (Match Same)
+    else if bytes_eq word (codes "star") then Ok (Match Star)
+    else Err BadMatch
+judge_match word (other ∷ more) = Err BadMatch
+
+-- the mode, the word after it and the further words
 abbrev pub judge_mode : List Text → Text → Text → List Text → Result Settings WordsFault
-judge_mode names mode growers more =
-    if bytes_eq mode (codes "grow") then judge_grow names (number_in 1 16 growers) more
-    else if bytes_eq mode (codes "sample") then judge_sample (number_in 1 16 growers) more
+judge_mode names mode second more =
+    if bytes_eq mode (codes "grow") then judge_grow names (number_in 10 1 16 second) more
+    else if bytes_eq mode (codes "sample") then judge_sample (number_in 10 1 16 second) more
+    else if bytes_eq mode (codes "census") then judge_census second more
+    else if bytes_eq mode (codes "match") then judge_match second more
     else Err UnknownMode
 
--- a mode, a number of growers and further words, of which the first two may be missing
+-- a mode, the word after it and further words, of which the first two may be missing
 abbrev pub judge_line : List Text → Option Text → Option Text → List Text
     → Result Settings WordsFault
-judge_line names (Some mode) (Some growers) more = judge_mode names mode growers more
-judge_line names mode growers more = Err Missing
+judge_line names (Some mode) (Some second) more = judge_mode names mode second more
+judge_line names mode second more = Err Missing
 
 -- words of which none begins with `-`
 abbrev pub judge_plain : List Text → List Text → Result Settings WordsFault
-judge_plain names (mode ∷ growers ∷ more) = judge_mode names mode growers more
+judge_plain names (mode ∷ second ∷ more) = judge_mode names mode second more
 judge_plain names few = Err Missing
 
 -- what the words of the command line mean, where the statistics have these names
@@ -99,8 +144,11 @@ judge_words words names =
 abbrev pub IsAnswer : {T : Type 0} → Result T WordsFault → Result T WordsFault → Type 0
 IsAnswer meaning answer = (answer ≡ meaning) ⊎ (answer ≡ Err NoMemory)
 
--- the number of growers is 1 to 16, and the chosen places are different ones of `count` names
+-- the number of growers is 1 to 16, the chosen places are different ones of `count` names, and the shape of a census is
+-- of type A and in the standard order
 abbrev pub FitsNames : ℕ → Settings → Type 0
 FitsNames count (Grow growers places) = (1 ≤ growers) × (growers ≤ 16)
     × IsDistinct nat_eq places × ((k : ℕ) → k < length places → slice_index places k < count)
 FitsNames count (Sample growers number) = (1 ≤ growers) × (growers ≤ 16)
+FitsNames count (Census shape) = IsShape shape × (shape.cartan.kind ≡ A) × (shape.order ≡ Standard)
+FitsNames count (Match relabelling) = Unit {0}

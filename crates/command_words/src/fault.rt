@@ -12,7 +12,7 @@ pub enum WordsFault {
     Dashed,
     #[error("fewer than two words")]
     Missing,
-    #[error("the mode is neither `grow` nor `sample`")]
+    #[error("the mode is none of `grow`, `sample`, `census` and `match`")]
     UnknownMode,
     #[error("the number of growers is not one to ten digits of value 1 to 16")]
     BadGrowers,
@@ -22,12 +22,16 @@ pub enum WordsFault {
     RepeatedStatistic,
     #[error("`sample` wants one number of at most ten digits below 2^32")]
     BadSample,
+    #[error("`census` wants the rank and the rows of a shape of type A")]
+    BadCensus,
+    #[error("`match` wants one word, `same` or `star`")]
+    BadMatch,
     #[error("out of memory")]
     NoMemory,
 }
 
 impl WordsFault {
-    /// The number that the program prints for the fault, 1 to 7; want of memory has none.
+    /// The number that the program prints for the fault: 1 to 7, 9 or 10; want of memory has none.
     pub fn number(&self) -> Option<u8>
         ensures { result ≡ fault_number self.now }
     {
@@ -39,6 +43,8 @@ impl WordsFault {
             WordsFault::UnknownStatistic => Some(5),
             WordsFault::RepeatedStatistic => Some(6),
             WordsFault::BadSample => Some(7),
+            WordsFault::BadCensus => Some(9),
+            WordsFault::BadMatch => Some(10),
             WordsFault::NoMemory => None,
         }
     }

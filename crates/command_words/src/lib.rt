@@ -4,10 +4,12 @@
 //! of `specs/Judge.antt` says (`reading`, the module to read first). Statistics are known by the names that the caller
 //! hands in, and are chosen as places among these (`statistics`, `settings`).
 //!
-//! **Stands on** the kit's `clap`, which cuts the words into a mode, a number and the rest, and answers nothing itself.
+//! **Stands on** the kit's `clap`, which cuts the words into a mode, a second word and the rest, and answers nothing itself;
+//! crystal_cartan and tableau_reading for the shape of a census.
 #![tactic(auto)]
 
 mod arguments;
+mod census;
 mod fault;
 mod number;
 mod reading;
@@ -18,4 +20,4 @@ mod tests;
 
 pub use fault::WordsFault;
 pub use reading::read_words;
-pub use settings::{Places, Settings};
+pub use settings::{Places, Relabelling, Settings};

@@ -12,18 +12,18 @@ fn has_digits_only(text: &str) -> bool
     text.bytes().all(|byte| byte.is_ascii_digit())
 }
 
-/// Whether the text is one to ten decimal digits.
-fn is_number_text(text: &str) -> bool
-    ensures { result ≡ is_numeral text.now }
+/// Whether the text is decimal digits, at least one and at most `most`.
+fn is_number_text(text: &str, most: usize) -> bool
+    ensures { result ≡ is_numeral most text.now }
 {
-    (1..=10).contains(&text.len()) && has_digits_only(text)
+    (1..=most).contains(&text.len()) && has_digits_only(text)
 }
 
-/// The number that one to ten decimal digits write, where it lies in `low..=high`.
-pub(crate) fn number_within(text: &str, low: u32, high: u32) -> Option<u32>
-    ensures { result ≡ number_in low high text.now }
+/// The number that at most `most` decimal digits write, where it lies in `low..=high`.
+pub(crate) fn number_within(text: &str, most: usize, low: u32, high: u32) -> Option<u32>
+    ensures { result ≡ number_in most low high text.now }
 {
-    if !is_number_text(text) {
+    if !is_number_text(text, most) {
         return None;
     }
     match text.parse::<u32>() {

@@ -5,16 +5,20 @@ ghost use Rattle.std.specs.Prelude.{unwrap_or};
 ghost use Rattle.std.specs.List.{list_any};
 ghost use Rattle.clap.specs.Words.{all_of, first_of, found_of, rows_of};
 ghost use Rattle.command_words.specs.Number.{number_in};
-ghost use Rattle.command_words.specs.Judge.{FitsNames, IsAnswer, is_dashed, judge_grow, judge_line};
+ghost use Rattle.command_words.specs.Judge.{FitsNames, IsAnswer, is_dashed, judge_grow, judge_line, judge_match};
 ghost use Rattle.command_words.specs.Judge.{judge_mode, judge_sample, judge_words};
 
 use crate::arguments::matches_in;
+use crate::census::census_settings;
 use crate::fault::WordsFault;
 use crate::number::number_within;
-use crate::settings::Settings;
+use crate::settings::{Relabelling, Settings};
 use crate::statistics::places_for;
 use clap::ArgMatches;
 use std::alloc::Global;
+
+/// The most digits of a number of growers and of a sample.
+const MOST_DIGITS: usize = 10;
 
 /// Whether a word begins with `-`.
 fn begins_with_dash(word: &String) -> bool
@@ -32,9 +36,9 @@ fn has_dashed_word(words: &[String]) -> bool
 
 /// The number of growers, 1 to 16.
 fn growers_in(text: &str) -> Option<u32>
-    ensures { result ≡ number_in 1 16 text.now }
+    ensures { result ≡ number_in 10 1 16 text.now }
 {
-    number_within(text, 1, 16)
+    number_within(text, MOST_DIGITS, 1, 16)
 }
 
 /// The settings of `grow`.
@@ -45,7 +49,7 @@ fn grow_settings(
     names: &[&str],
 ) -> Result<Settings, WordsFault>
     ensures { IsAnswer (judge_grow (map (λ name. name.now) names.now)
-        (number_in 1 16 growers.now) (map (λ text. text.now) more.now)) result }
+        (number_in 10 1 16 growers.now) (map (λ text. text.now) more.now)) result }
 {
     let Some(growers) = growers_in(growers) else {
         return Err(WordsFault::BadGrowers);
@@ -58,7 +62,7 @@ fn grow_settings(
 
 /// The settings of `sample`.
 fn sample_settings(growers: &str, more: &[&str]) -> Result<Settings, WordsFault>
-    ensures { result ≡ judge_sample (number_in 1 16 growers.now)
+    ensures { result ≡ judge_sample (number_in 10 1 16 growers.now)
         (map (λ text. text.now) more.now) }
 {
     let Some(growers) = growers_in(growers) else {
@@ -67,26 +71,46 @@ fn sample_settings(growers: &str, more: &[&str]) -> Result<Settings, WordsFault>
     let [word] = more else {
         return Err(WordsFault::BadSample);
     };
-    let Some(number) = number_within(word, 0, u32::MAX) else {
+    let Some(number) = number_within(word, MOST_DIGITS, 0, u32::MAX) else {
         return Err(WordsFault::BadSample);
     };
     Ok(Settings::Sample { growers, number })
 }
 
-/// The settings of a mode, by the arguments after it.
+/// The settings of `match`.
+fn match_settings(word: &str, more: &[&str]) -> Result<Settings, WordsFault>
+    ensures { result ≡ judge_match word.now (map (λ text. text.now) more.now) }
+{
+    let [] = more else {
+        return Err(WordsFault::BadMatch);
+    };
+    match word {
+        "same" => Ok(Settings::Match {
+            relabelling: Relabelling::Same,
+        }),
+        "star" => Ok(Settings::Match {
+            relabelling: Relabelling::Star,
+        }),
+        _ => Err(WordsFault::BadMatch),
+    }
+}
+
+/// The settings of a mode, by the words after it.
 fn mode_settings(
     alloc: Global,
     mode: &str,
-    growers: &str,
+    second: &str,
     more: &[&str],
     names: &[&str],
 ) -> Result<Settings, WordsFault>
-    ensures { IsAnswer (judge_mode (map (λ name. name.now) names.now) mode.now growers.now
+    ensures { IsAnswer (judge_mode (map (λ name. name.now) names.now) mode.now second.now
         (map (λ text. text.now) more.now)) result }
 {
     match mode {
-        "grow" => grow_settings(alloc, growers, more, names),
-        "sample" => sample_settings(growers, more),
+        "grow" => grow_settings(alloc, second, more, names),
+        "sample" => sample_settings(second, more),
+        "census" => census_settings(alloc, second, more),
+        "match" => match_settings(second, more),
         _ => Err(WordsFault::UnknownMode),
     }
 }
@@ -95,16 +119,16 @@ fn mode_settings(
 fn line_settings(
     alloc: Global,
     mode: Option<&str>,
-    growers: Option<&str>,
+    second: Option<&str>,
     more: &[&str],
     names: &[&str],
 ) -> Result<Settings, WordsFault>
     ensures { IsAnswer (judge_line (map (λ name. name.now) names.now)
-        (option_map (λ text. text.now) mode.entry) (option_map (λ text. text.now) growers.entry)
+        (option_map (λ text. text.now) mode.entry) (option_map (λ text. text.now) second.entry)
         (map (λ text. text.now) more.now)) result }
 {
-    match (mode, growers) {
-        (Some(mode), Some(growers)) => mode_settings(alloc, mode, growers, more, names),
+    match (mode, second) {
+        (Some(mode), Some(second)) => mode_settings(alloc, mode, second, more, names),
         _ => Err(WordsFault::Missing),
     }
 }
@@ -120,9 +144,9 @@ fn matched_settings(
         (first_of (codes "GROWERS") rows) (unwrap_or (all_of (codes "REST") rows) [])) result }
 {
     let mode = matches.get_str("MODE");
-    let growers = matches.get_str("GROWERS");
+    let second = matches.get_str("GROWERS");
     let more = matches.get_strs("REST").unwrap_or(&[]);
-    line_settings(alloc, mode, growers, more, names)
+    line_settings(alloc, mode, second, more, names)
 }
 
 /// What the command words ask for, where `names` are the names of the statistics in their order.

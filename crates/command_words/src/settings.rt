@@ -3,6 +3,7 @@
 ghost use Rattle.std.specs.Prelude.{◌≡◌, ◌<◌, ◌==◌, ℕ, List, length, slice_index};
 
 use std::marker::Model;
+use tableau_reading::Shape;
 
 /// Places in the list of the statistics, counted from 0, in the order of the words that named them.
 #[derive(Debug, Drop)]
@@ -53,6 +54,15 @@ impl Places {
     }
 }
 
+/// How the arrows of two components are set against each other.
+#[derive(Clone, Copy, Debug, PartialEq, Eq)]
+pub enum Relabelling {
+    /// Each arrow against itself.
+    Same,
+    /// The relabelling of the Lusztig involution.
+    Star,
+}
+
 /// What accepted command words ask for. The number of growers is 1 to 16.
 #[derive(Debug, Drop)]
 pub enum Settings {
@@ -60,4 +70,8 @@ pub enum Settings {
     Grow { growers: u32, chosen: Places },
     /// Grow the crystal of the sample job of this number.
     Sample { growers: u32, number: u32 },
+    /// List the semistandard tableaux of a shape of type A, in the standard tensor order.
+    Census { shape: Shape },
+    /// Compare the first two starts of the job that is read, and their components.
+    Match { relabelling: Relabelling },
 }

@@ -1,8 +1,10 @@
 //! Command words from a table, with what the program's description says of each.
 
-use crate::{Settings, WordsFault, read_words};
+use crate::{Relabelling, Settings, WordsFault, read_words};
+use crystal_cartan::{Cartan, Kind};
 use std::alloc::Global;
 use std::test::Fail;
+use tableau_reading::Shape;
 
 const NAMES: [&str; 3] = ["strings", "ends", "ends"];
 
@@ -51,6 +53,16 @@ fn refused_words(rt: HostRuntime) {
         ("sample 2", 7),
         ("sample 2 1 1", 7),
         ("sample 16 4294967296", 7),
+        ("census 2", 9),
+        ("census 0 1", 9),
+        ("census 9 1", 9),
+        ("census 2 1 2", 9),
+        ("census 2 1 0", 9),
+        ("census 1 1 1 1", 9),
+        ("census 2 x", 9),
+        ("census 2 0000000001", 9),
+        ("match other", 10),
+        ("match same star", 10),
         ("grow 2", 0),
         ("grow 16 ends strings", 0),
     ];
@@ -76,5 +88,24 @@ fn accepted_words(rt: HostRuntime) -> Result<(), Fail> {
         panic!(rt; "another mode");
     };
     assert_eq!(rt; (growers, number), (16, u32::MAX));
+    Ok(())
+}
+
+#[test]
+fn accepted_later_modes(rt: HostRuntime) -> Result<(), Fail> {
+    let census = settings_of(rt.alloc(), "census 2 000000002 1")?;
+    let Settings::Census { shape } = census else {
+        panic!(rt; "another mode");
+    };
+    assert_eq!(rt; shape, Shape::new(&[2, 1], Cartan::new(Kind::A, 2)?)?);
+    for (line, wanted) in [
+        ("match same", Relabelling::Same),
+        ("match star", Relabelling::Star),
+    ] {
+        let Settings::Match { relabelling } = settings_of(rt.alloc(), line)? else {
+            panic!(rt; "another mode");
+        };
+        assert_eq!(rt; relabelling, wanted);
+    }
     Ok(())
 }

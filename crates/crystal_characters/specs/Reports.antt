@@ -1,15 +1,12 @@
 -- What statistics report of the items that they were fed. The items may be of several types.
 use Rattle.std.specs.Prelude.{ℕ, ◌-◌, ◌==◌, ◌||◌, ◌≡◌, max, Bool, List, [], ◌∷◌, ◌++◌, map, filter, fold, length, take, slice_index, count_by, decimal, Result, OnOk}
 use Rattle.std.specs.List.{range_with_len, flat_map, list_all}
+use Rattle.crystal_streams.specs.Lines.{ended}
 use Rattle.tableau_reading.specs.Texts.{weight_text}
 use Rattle.canonical_graph.specs.Texts.{bar}
 use Rattle.crystal_characters.specs.declared.items.Item.{Item}
 use Rattle.crystal_characters.specs.declared.tallies.Multiplicity.{Multiplicity}
 use Rattle.crystal_characters.specs.Characters.{tally}
-
--- a line with the byte 10 at its end
-abbrev pub ended : List ℕ → List ℕ
-ended line = line ++ 10 ∷ []
 
 -- the report `character`: a line `WEIGHT | TIMES` for each weight that occurs, falling
 unfoldable pub multiplicity_text : Multiplicity → List ℕ

@@ -1,72 +1,36 @@
 //! The statistic `character`.
-ghost use Rattle.std.specs.Prelude.{◌≡◌, ◌<◌, ℕ, [], length, IfOk, map, All};
+ghost use Rattle.std.specs.Prelude.{◌≡◌, ◌<◌, length, codes, IfOk, map, All};
 ghost use Rattle.crystal_cartan.specs.Weights.{IsSmall};
-ghost use Rattle.crystal_characters.specs.declared.tallies.Multiplicity.{Multiplicity as Listed};
-ghost use Rattle.crystal_characters.specs.Items.{IsFit};
 ghost use Rattle.crystal_characters.specs.Reports.{character_report, multiplicity_text, multiplicity_lines, Appends};
 
 use crate::items::Item;
-use crate::printing::{print_number, push_line};
-use crate::statistics::Statistic;
+use crate::printing::print_number;
+use crate::rules::{Rule, Tally};
 use crate::tallies::{Character, tally_of};
 use crystal_cartan::Weight;
-use crystal_streams::{Line, NoMemory};
+use crystal_streams::{Line, NoMemory, push_line};
 use std::alloc::Global;
-use std::marker::Model;
 use tableau_reading::print_weight;
 
 /// The statistic `character`: the weights of the items with their multiplicities.
-#[derive(Debug, Drop)]
-pub struct CharacterTally {
-    items: Vec<Item>,
-}
+pub type CharacterTally = Tally<Characters>;
 
-impl Model for CharacterTally {
-    ghost use Rattle.std.specs.Prelude.{List, All};
-    ghost use Rattle.crystal_characters.specs.declared.items.Item.{Item};
-    ghost use Rattle.crystal_characters.specs.Items.{IsFit};
+/// The rule of the statistic `character`.
+#[derive(Debug)]
+pub struct Characters;
 
-    ghost Value = { List Item };
+impl Rule for Characters {
+    ghost named = { codes "character" };
 
-    ghost view = { λ t. t.items.items };
+    ghost reported = { character_report };
 
-    ghost invariant = { λ t. All IsFit t.items.items };
-}
-
-impl CharacterTally {
-    /// A tally of no item. It takes no memory.
-    pub fn new(alloc: Global) -> CharacterTally
-        ensures { result ≡ [] }
-    {
-        CharacterTally {
-            items: Vec::new(alloc),
-        }
-    }
-}
-
-impl Statistic for CharacterTally {
-    ghost use Rattle.std.specs.Prelude.{codes};
-    ghost use Rattle.crystal_characters.specs.Reports.{character_report};
-
-    ghost named = { λ t. codes "character" };
-
-    ghost fed = { λ t. t };
-
-    ghost reported = { λ t items. character_report items };
-
-    fn name(&self) -> &str {
+    fn name() -> &'static str {
         "character"
     }
 
-    fn take(&mut self, item: &Item) -> Result<(), NoMemory> {
-        self.items.push(*item)?;
-        Ok(())
-    }
-
     #[tactic(auto, unfolding(crate::specs::Reports::character_report))]
-    fn report(&self, out: &mut Vec<u8>) -> Result<(), NoMemory> {
-        let alloc = *self.items.allocator();
-        let weights = item_weights(alloc, self.items.as_slice())?;
+    fn report(alloc: Global, items: &[Item], out: &mut Vec<u8>) -> Result<(), NoMemory> {
+        let weights = item_weights(alloc, items)?;
         let tally = tally_of(alloc, weights)?;
         push_multiplicities(out, &tally)
     }
@@ -90,7 +54,7 @@ fn push_multiplicities(out: &mut Vec<u8>, character: &Character) -> Result<(), N
 {
     'weights: for k in 0..character.len() {
         let line = multiplicity_line(&character.weight_at(k), character.times_at(k));
-        push_line(out, line)?;
+        push_line(out, &line)?;
     }
     Ok(())
 }

@@ -1,64 +1,34 @@
 //! The statistic `ends`.
-ghost use Rattle.std.specs.Prelude.{◌≡◌, ◌≤◌, ℕ, [], count_by};
+ghost use Rattle.std.specs.Prelude.{◌≡◌, ◌≤◌, codes, count_by};
 ghost use Rattle.crystal_characters.specs.Reports.{end_report, is_end, is_end_at, Appends};
 
 use crate::items::Item;
-use crate::printing::{print_number, push_line};
-use crate::statistics::Statistic;
-use crystal_streams::{Line, NoMemory};
+use crate::printing::print_number;
+use crate::rules::{Rule, Tally};
+use crystal_streams::{Line, NoMemory, push_line};
 use std::alloc::Global;
-use std::marker::Model;
 
 /// The statistic `ends`: the number of items that are at an end of their string at every index.
-#[derive(Debug, Drop)]
-pub struct EndTally {
-    items: Vec<Item>,
-}
+pub type EndTally = Tally<Ends>;
 
-impl Model for EndTally {
-    ghost use Rattle.std.specs.Prelude.{List};
-    ghost use Rattle.crystal_characters.specs.declared.items.Item.{Item};
+/// The rule of the statistic `ends`.
+#[derive(Debug)]
+pub struct Ends;
 
-    ghost Value = { List Item };
+impl Rule for Ends {
+    ghost named = { codes "ends" };
 
-    ghost view = { λ t. t.items.items };
-}
+    ghost reported = { end_report };
 
-impl EndTally {
-    /// A tally of no item. It takes no memory.
-    pub fn new(alloc: Global) -> EndTally
-        ensures { result ≡ [] }
-    {
-        EndTally {
-            items: Vec::new(alloc),
-        }
-    }
-}
-
-impl Statistic for EndTally {
-    ghost use Rattle.std.specs.Prelude.{codes};
-    ghost use Rattle.crystal_characters.specs.Reports.{end_report};
-
-    ghost named = { λ t. codes "ends" };
-
-    ghost fed = { λ t. t };
-
-    ghost reported = { λ t items. end_report items };
-
-    fn name(&self) -> &str {
+    fn name() -> &'static str {
         "ends"
     }
 
-    fn take(&mut self, item: &Item) -> Result<(), NoMemory> {
-        self.items.push(*item)?;
-        Ok(())
-    }
-
     #[tactic(auto, unfolding(crate::specs::Reports::end_report))]
-    fn report(&self, out: &mut Vec<u8>) -> Result<(), NoMemory> {
+    fn report(_alloc: Global, items: &[Item], out: &mut Vec<u8>) -> Result<(), NoMemory> {
         let mut line = Line::new();
-        print_number(end_count(self.items.as_slice()), &mut line);
-        push_line(out, line)
+        print_number(end_count(items), &mut line);
+        push_line(out, &line)
     }
 }
 

@@ -9,7 +9,8 @@
 //!
 //! It stands on `canonical_graph`, whose finished graphs it reads by rank, on `signature_rule` for strings of words, and on
 //! `tableau_reading` for weights as text. Read `statistics` first: it says what a statistic is; then `items`, what one is
-//! fed, and `feeding`. A new statistic is a type like `EndTally`, with its rule in `specs/Reports`.
+//! fed, and `feeding`. The three keep their items in a `Tally`, which reports them by a rule (`rules`). A new statistic is a
+//! rule like `Ends`, with its definition in `specs/Reports`, or a type of its own.
 #![tactic(auto)]
 
 mod character_tally;
@@ -20,6 +21,7 @@ mod items;
 mod laws;
 mod printing;
 mod reflections;
+mod rules;
 mod statistics;
 mod string_tally;
 mod tallies;
@@ -34,6 +36,7 @@ pub use feeding::{feed, feed_chosen};
 pub use items::Item;
 pub use laws::{characters_are_unique, reflections_keep_multiplicities, tallies_are_exact};
 pub use reflections::reflect;
+pub use rules::{Rule, Tally};
 pub use statistics::Statistic;
 pub use string_tally::StringTally;
 pub use tallies::{Character, Multiplicity};

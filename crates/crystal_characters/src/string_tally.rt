@@ -1,64 +1,34 @@
 //! The statistic `strings`.
-ghost use Rattle.std.specs.Prelude.{◌≡◌, ◌<◌, ◌≤◌, ℕ, [], length, map};
+ghost use Rattle.std.specs.Prelude.{◌≡◌, ◌<◌, ◌≤◌, length, codes, map};
 ghost use Rattle.crystal_characters.specs.Reports.{string_report, string_text, string_lines, heads, greatest, phi_at, Appends};
 
 use crate::items::Item;
-use crate::printing::{print_number, push_line};
-use crate::statistics::Statistic;
-use crystal_streams::{Line, NoMemory};
+use crate::printing::print_number;
+use crate::rules::{Rule, Tally};
+use crystal_streams::{Line, NoMemory, push_line};
 use std::alloc::Global;
-use std::marker::Model;
 
 /// The statistic `strings`: for each index the number of strings and the length of the longest.
-#[derive(Debug, Drop)]
-pub struct StringTally {
-    items: Vec<Item>,
-}
+pub type StringTally = Tally<Strings>;
 
-impl Model for StringTally {
-    ghost use Rattle.std.specs.Prelude.{List};
-    ghost use Rattle.crystal_characters.specs.declared.items.Item.{Item};
+/// The rule of the statistic `strings`.
+#[derive(Debug)]
+pub struct Strings;
 
-    ghost Value = { List Item };
+impl Rule for Strings {
+    ghost named = { codes "strings" };
 
-    ghost view = { λ t. t.items.items };
-}
+    ghost reported = { string_report };
 
-impl StringTally {
-    /// A tally of no item. It takes no memory.
-    pub fn new(alloc: Global) -> StringTally
-        ensures { result ≡ [] }
-    {
-        StringTally {
-            items: Vec::new(alloc),
-        }
-    }
-}
-
-impl Statistic for StringTally {
-    ghost use Rattle.std.specs.Prelude.{codes};
-    ghost use Rattle.crystal_characters.specs.Reports.{string_report};
-
-    ghost named = { λ t. codes "strings" };
-
-    ghost fed = { λ t. t };
-
-    ghost reported = { λ t items. string_report items };
-
-    fn name(&self) -> &str {
+    fn name() -> &'static str {
         "strings"
     }
 
-    fn take(&mut self, item: &Item) -> Result<(), NoMemory> {
-        self.items.push(*item)?;
-        Ok(())
-    }
-
     #[tactic(auto, unfolding(crate::specs::Reports::string_report))]
-    fn report(&self, out: &mut Vec<u8>) -> Result<(), NoMemory> {
-        match self.items.first() {
+    fn report(_alloc: Global, items: &[Item], out: &mut Vec<u8>) -> Result<(), NoMemory> {
+        match items.first() {
             None => Ok(()),
-            Some(item) => push_strings(out, self.items.as_slice(), item.cartan.rank()),
+            Some(item) => push_strings(out, items, item.cartan.rank()),
         }
     }
 }
@@ -69,7 +39,7 @@ fn push_strings(out: &mut Vec<u8>, items: &[Item], indices: u8) -> Result<(), No
     ensures { Appends (string_lines items.now indices) out.old.items out.new.items result }
 {
     'indices: for place in 0..indices {
-        push_line(out, string_line(items, place + 1))?;
+        push_line(out, &string_line(items, place + 1))?;
     }
     Ok(())
 }

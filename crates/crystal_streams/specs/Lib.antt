@@ -2,3 +2,4 @@ pub mod Faults
 pub mod Reads
 pub mod Writes
 pub mod Memory
+pub mod Lines

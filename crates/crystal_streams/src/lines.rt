@@ -1,7 +1,9 @@
-// One line of text while it is being made.
-ghost use Rattle.std.specs.Prelude.{◌≡◌, ◌+◌, ◌≤◌, List, [], ◌++◌, ℕ, length, take};
+//! One line of text while it is being made, and a line behind a text.
+ghost use Rattle.std.specs.Prelude.{◌≡◌, ◌+◌, ◌≤◌, List, [], ◌++◌, ℕ, length, take, is_ok, if◌then◌else◌};
 ghost use Rattle.std.specs.Fmt.{signed_decimal};
+ghost use Rattle.crystal_streams.specs.Lines.{ended};
 
+use crate::faults::NoMemory;
 use itoa::Buffer;
 use std::marker::Model;
 
@@ -69,4 +71,17 @@ impl Line {
             self.text(digits.format(value).as_bytes());
         }
     }
+}
+
+/// Appends a line and its end to a text. After `NoMemory` the text is as before.
+pub fn push_line(text: &mut Vec<u8>, line: &Line) -> Result<(), NoMemory>
+    ensures { text.new.items ≡ (if is_ok result then text.old.items ++ ended line.now else text.old.items) }
+{
+    let length = text.len();
+    text.extend_from_slice(line.bytes())?;
+    if text.push(b'\n').is_err() {
+        text.truncate(length);
+        return Err(NoMemory);
+    }
+    Ok(())
 }

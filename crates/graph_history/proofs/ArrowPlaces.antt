@@ -5,7 +5,8 @@ use Rattle.std.proofs.lemmas.Nat.{same_from_place}
 use Rattle.crystal_cartan.specs.declared.types.Arrow.{Arrow}
 use Rattle.tensor_words.specs.Operators.{IsArrow}
 use Rattle.tensor_words.specs.Worlds.{WorldType}
-use Rattle.graph_history.specs.ArrowRows.{arrow_place, edge_place}
+use Rattle.signature_rule.specs.ArrowOrder.{arrow_place}
+use Rattle.graph_history.specs.ArrowRows.{edge_place}
 
 pub place_fits : (rank : ℕ) (a : Arrow) → 1 ≤ a.index → a.index ≤ rank → arrow_place rank a < 2 * rank
 place_fits rank a low high = by a.down

@@ -16,7 +16,8 @@ use Rattle.graph_history.specs.declared.event.Act.{Act}
 use Rattle.graph_history.specs.declared.event.Act.TheVariants.{Added, Met, Missed, Spent, Drew, Saw, Blank, Owed, Settled, Tally}
 use Rattle.graph_history.specs.declared.event.Event.{Event}
 use Rattle.graph_history.specs.History.{State, state_of, after, vertex_at, target_at, same_arrow, HasVertex, IsNew, IsOrigin, IsWhole, MayAdd, MayDraw, MaySettle, IsLegalAct, IsLegal}
-use Rattle.graph_history.specs.ArrowRows.{arrow_place, edge_place, edge_word}
+use Rattle.signature_rule.specs.ArrowOrder.{arrow_place}
+use Rattle.graph_history.specs.ArrowRows.{edge_place, edge_word}
 use Rattle.graph_history.specs.Plain.{unpaid_of, IsKept, IsDesk, IsQuiet}
 use Rattle.graph_history.specs.Desks.{unpaid_then, without}
 use Rattle.graph_history.proofs.Histories.{legal_push, legal_empty, state_push, vertex_at-new, vertex_at-other, target_at-new, target_at-other, same_edge, own_edge}

@@ -13,25 +13,8 @@ use Rattle.graph_history.specs.declared.event.Act.TheVariants.{Added, Met, Misse
 use Rattle.graph_history.specs.declared.event.Event.{Event}
 use Rattle.graph_history.specs.History.{Vertex, DrawnArrow, State, empty_state, after, state_from, state_of, vertex_at, target_at, HasVertex, HasArrow, IsOrigin, IsTarget, MayAdd, MayDraw, IsLegalAct, LegalFrom, IsLegal}
 use Rattle.graph_history.specs.Laws.{Stays, IsReachedIn, IsSimple}
+use Rattle.signature_rule.proofs.Paths.{path-push, walked}
 use Rattle.graph_history.proofs.Histories.{slice_get-push, vertex_at-push, vertex_at-new, target_at-push, target_at-new, same_edge, own_edge, stays_after}
-
--- one more step at the end of a walk
-walk-append : (s : SpaceType) (p q : List Arrow) (x : ℕ) → walk s (p ++ q) x ≡ option_and_then (walk s q) (walk s p x)
-unfolding walk
-walk-append s [] q x = refl
-walk-append s (a ∷ p) q x =
-    elim (op s a x) as (λ o. option_and_then (walk s (p ++ q)) o ≡ option_and_then (walk s q) (option_and_then (walk s p) o)) [
-      | None ↦ refl
-      | Some y ↦ walk-append s p q y
-    ]
-
-pub path-push : (s : SpaceType) (p : List Arrow) (a : Arrow) → IsPath s p → IsArrow s a → IsPath s (p ++ a ∷ [])
-path-push s [] a h is = (is, tt)
-path-push s (b ∷ p) a h is = (h.0, path-push s p a h.1 is)
-
-pub walked : (s : SpaceType) (p : List Arrow) (a : Arrow) (r x y : ℕ) → walk s p r ≡ Some y → op s a y ≡ Some x → walk s (p ++ a ∷ []) r ≡ Some x
-unfolding walk
-walked s p a r x y p_leads a_leads = rw (walk-append s p (a ∷ []) r, p_leads, a_leads) refl
 
 pub root_walk : (s : SpaceType) (x : ℕ) → walk s [] x ≡ Some x
 unfolding walk

@@ -1,14 +1,11 @@
 -- Where the arrows of a cell are kept: a row of words for each cell, one word for each arrow.
-use Rattle.std.specs.Prelude.{ℕ, ◌+◌, ◌-◌, ◌*◌, if◌then◌else◌, Option, Some, None}
+use Rattle.std.specs.Prelude.{ℕ, ◌+◌, ◌*◌, Option, Some, None}
 use Rattle.crystal_cartan.specs.declared.types.Arrow.{Arrow}
+use Rattle.signature_rule.specs.ArrowOrder.{arrow_place}
 use Rattle.graph_history.specs.declared.answer.Look.{Look}
 use Rattle.graph_history.specs.declared.answer.Look.TheVariants.{Blank, Zero, To}
 
--- the place of an arrow in the row of its cell: f_1 to f_r, then e_1 to e_r
-abbrev pub arrow_place : ℕ → Arrow → ℕ
-arrow_place rank a = if a.down then a.index - 1 else rank + (a.index - 1)
-
--- the place of an arrow of a cell among all rows
+-- the place of an arrow of a cell among all rows, each in the order of arrows
 abbrev pub edge_place : ℕ → ℕ → Arrow → ℕ
 edge_place rank c a = c * (2 * rank) + arrow_place rank a
 

@@ -17,6 +17,15 @@ use Rattle.graph_history.specs.declared.answer.Draw.{Draw}
 use Rattle.graph_history.specs.declared.answer.Draw.TheVariants.{Zero as DrawsZero, To as DrawsTo, Full as DrawsFull}
 use Rattle.graph_history.specs.History.{state_of, HasVertex, IsLegal, calls}
 
+-- the cells that acts put in
+abbrev pub added_by : Act → List ℕ
+added_by (Added c x o) = c ∷ []
+added_by _ = []
+
+abbrev pub added_cells : List Act → List ℕ
+added_cells [] = []
+added_cells (a ∷ acts) = added_by a ++ added_cells acts
+
 -- these acts by one caller
 abbrev pub by : ℕ → List Act → List Event
 by n [] = []

@@ -4,5 +4,4 @@ pub mod Fronts
 pub mod Desks
 pub mod Notes
 pub mod ArrowRows
-pub mod Acting
 pub mod Plain

@@ -37,6 +37,5 @@ pub use laws::{
     spent_outnumbers, states_are_simple, states_stay, tally_closes, vertices_are_reached,
     vertices_fit,
 };
-pub use operators::Operators;
 pub use plain_desk::PlainDesk;
 pub use view::{Dues, Kept, View};

@@ -4,7 +4,7 @@ use Rattle.std.proofs.lemmas.List.{set-get_or, get_or-set_same, get_or-set_other
 use mathlib.Core.Option.{some, none}
 use lib.ListN.{get_elem?}
 use Rattle.atomic_table.specs.Table.{State as TableState, Me, Step, step, Allows, keeps}
-use Rattle.tensor_words.specs.Worlds.{WorldType}
+use Rattle.tensor_words.specs.Worlds.{WorldType, most_cells}
 use Rattle.graph_history.specs.declared.event.Act.{Act}
 use Rattle.graph_history.specs.declared.event.Act.TheVariants.{Owed, Settled, Tally}
 use Rattle.graph_history.specs.declared.view.Dues.{Dues}
@@ -37,8 +37,8 @@ module _ {key : WorldType} {words : List ℕ} {views : List View} (r : IsRunning
   debts_below : S.debts ≤ key.cells + whole
   debts_below = let few = debts_few r in omega (arith, r.counted)
 
-  cells_few : key.cells ≤ 1048576
-  cells_few = let f = fits_here r id v at live in subst (λ (w : WorldType). w.cells ≤ 1048576) f.world_is f.known.world.few
+  cells_few : key.cells ≤ most_cells
+  cells_few = let f = fits_here r id v at live in subst (λ (w : WorldType). w.cells ≤ most_cells) f.world_is f.known.world.few
 
   -- an act that changes the number of debts alone
   changes : (act : Act) (d : Dues) (k : ℕ) → after S act ≡ record S { debts = k } → LegalFrom key S (by v.number (act ∷ [])) → IsDues S d

@@ -10,7 +10,7 @@ use crystal_streams::NoMemory;
 use graph_history::View;
 use std::alloc::Global;
 use std::marker::Model;
-use tensor_words::World;
+use tensor_words::{Steps, World};
 
 /// A crystal graph that callers of any number of threads grow together, each through a seat of its own. It is shared by
 /// reference. No call on it waits for another.
@@ -18,6 +18,7 @@ use tensor_words::World;
 pub struct Graph {
     pub(crate) board: Table<(), View, World, Running, Global>,
     world: World,
+    steps: Steps,
 }
 
 impl Model for Graph {
@@ -29,7 +30,7 @@ impl Model for Graph {
 
     ghost view = { λ g. record { table = g.board.shared.table_id; world = g.world } };
 
-    ghost invariant = { λ g. (g.board.shared.key ≡ g.world) × (g.board.shared.table_id.words ≡ word_count g.world) };
+    ghost invariant = { λ g. (g.board.shared.key ≡ g.world) × (g.board.shared.table_id.words ≡ word_count g.world) × (g.steps ≡ g.world.space) };
 }
 
 impl Graph {
@@ -43,8 +44,21 @@ impl Graph {
         let cells = world.cells() as usize;
         let rank = world.space().cartan().rank() as usize;
         let words = vec![in alloc; 0; 1 + cells + cells * (2 * rank)]?;
+        let steps = Steps::new(alloc, *world.space())?;
         let (board, token) = Table::of_words(alloc, words.as_slice(), &world)?;
-        Ok((Graph { board, world }, Seat::first(token)))
+        let graph = Graph {
+            board,
+            world,
+            steps,
+        };
+        Ok((graph, Seat::first(token)))
+    }
+
+    /// The tables of the operators of its world's space.
+    pub fn steps(&self) -> &Steps
+        ensures value { result.now ≡ self.now.world.space }
+    {
+        &self.steps
     }
 
     /// The world that it grows in.

@@ -1,5 +1,6 @@
 //! The path of a code: all cells in a round, from the code's home on.
 ghost use Rattle.std.specs.Prelude.{◌≡◌, ◌<◌, ◌≤◌, ◌+◌, ◌%◌};
+ghost use Rattle.tensor_words.specs.Worlds.{most_cells};
 ghost use Rattle.graph_rule.specs.Layout.{home};
 
 /// The odd number next to 2^64 divided by the golden ratio, which spreads codes that lie close.
@@ -17,7 +18,7 @@ pub(crate) fn home(code: u64, cells: u32) -> u32
 /// The cell after this one, in a round.
 pub(crate) fn following(cell: u32, cells: u32) -> u32
     requires below { cell < cells }
-    requires few { cells ≤ 1048576 }
+    requires few { cells ≤ most_cells }
     ensures { result ≡ (cell + 1) % cells }
 {
     if cell + 1 == cells { 0 } else { cell + 1 }

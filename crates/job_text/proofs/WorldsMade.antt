@@ -4,7 +4,7 @@ use Rattle.std.specs.List.Sorted.{IsStrictlyIncreasing}
 use Rattle.std.proofs.lemmas.Bool.Decides.{nat_tests}
 use Rattle.std.proofs.lemmas.List.Elements.{All-tail}
 use Rattle.tensor_words.specs.Spaces.{SpaceType, size}
-use Rattle.tensor_words.specs.Worlds.{world_of, place_of_no_word, place_of_no_rise, place_of_no_rise_after}
+use Rattle.tensor_words.specs.Worlds.{most_cells, world_of, place_of_no_word, place_of_no_rise, place_of_no_rise_after}
 
 test_below : (a b : ℕ) → a < b → nat_lt a b ≡ true
 test_below a b lt = grind (arith, nat_tests)
@@ -26,13 +26,13 @@ all_rise : (cs : List ℕ) → IsStrictlyIncreasing cs → place_of_no_rise cs �
 all_rise [] rise = refl
 all_rise (c ∷ cs) rise = all_rise_after 1 c cs rise
 
-few_cells : (cells : ℕ) → 1 ≤ cells → cells ≤ 1048576 → ((cells == 0) || nat_lt 1048576 cells) ≡ false
+few_cells : (cells : ℕ) → 1 ≤ cells → cells ≤ most_cells → ((cells == 0) || nat_lt most_cells cells) ≡ false
 few_cells cells low high = grind (arith, nat_tests)
 
 some_root : (roots : List ℕ) → 0 < length roots → (length roots == 0) ≡ false
 some_root roots some = grind (arith, nat_tests)
 
-pub world_made : (s : SpaceType) (cells : ℕ) (roots : List ℕ) → 1 ≤ cells → cells ≤ 1048576 → 0 < length roots → IsStrictlyIncreasing roots →
+pub world_made : (s : SpaceType) (cells : ℕ) (roots : List ℕ) → 1 ≤ cells → cells ≤ most_cells → 0 < length roots → IsStrictlyIncreasing roots →
     All (λ c. c < size s) roots → world_of s cells roots ≡ Ok (record { space = s; cells = cells; roots = roots })
 unfolding world_of
 world_made s cells roots low high some rise all =

@@ -1,6 +1,7 @@
 -- What is known of a job while its lines are read.
 use Rattle.std.specs.Prelude.{ℕ, ◌-◌, ◌<◌, ◌≤◌, List, [], ◌∷◌, ◌++◌, length, slice_index_or, slice_set, Option, Some, None, unwrap_or, All, IfSome}
 use Rattle.tensor_words.specs.Spaces.{SpaceType, IsSpace, size}
+use Rattle.tensor_words.specs.Worlds.{most_cells}
 use Rattle.tensor_words.specs.declared.spaces.Order.{Order}
 use Rattle.tensor_words.specs.declared.spaces.Order.TheVariants.{Standard}
 use Rattle.job_text.specs.declared.drafts.TypedHead.{TypedHead}
@@ -29,7 +30,7 @@ pub record IsDraft (d : Drafted) : Type 0 where
   pub top : IfSome d.top (λ c. c < size d.space)
   pub starts : All (λ c. c < size d.space) d.starts
   pub few_starts : length d.starts ≤ 256
-  pub cells : IfSome d.cells (λ n. (1 ≤ n) × (n ≤ 1048576))
+  pub cells : IfSome d.cells (λ n. (1 ≤ n) × (n ≤ most_cells))
   pub scripts : All (IsScript d.space) d.scripts
   pub few_scripts : length d.scripts ≤ 16
   pub asks : All (IsAsk d.space) d.asks

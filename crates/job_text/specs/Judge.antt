@@ -12,6 +12,7 @@ use Rattle.tensor_words.specs.declared.spaces.Order.{Order as TensorOrder}
 use Rattle.tensor_words.specs.declared.spaces.Order.TheVariants.{Standard, Kashiwara}
 use Rattle.tensor_words.specs.Spaces.{SpaceType, space_of, ordered}
 use Rattle.tensor_words.specs.Codes.{code_of}
+use Rattle.tensor_words.specs.Worlds.{most_cells}
 use Rattle.text_pieces.specs.Pieces.{pieces, words, at, are_printed}
 use Rattle.text_pieces.specs.Numbers.{number_of, all_some}
 use Rattle.tableau_reading.specs.Shapes.{ShapeType, shape_of, shape_in, shape_space}
@@ -137,7 +138,7 @@ arrow down i = record { down = down; index = i }
 
 -- the draft with a number of cells
 abbrev pub celled : List (List ℕ) → Drafted → Judged Drafted
-celled args d = and_then (numbered (at args 0)) (λ n. unless (nat_le 1 n && nat_le n 1048576) CellsRange (Ok (with_cells d n)))
+celled args d = and_then (numbered (at args 0)) (λ n. unless (nat_le 1 n && nat_le n most_cells) CellsRange (Ok (with_cells d n)))
 
 -- what the line of a key word makes of a draft
 unfoldable pub drafted : Key → List (List ℕ) → Drafted → Judged Drafted

@@ -2,6 +2,7 @@
 ghost use Rattle.std.specs.Prelude.{◌≡◌, ◌<◌, ◌≤◌, ◌==◌, ◌||◌, not, true, IfOk, IfSome, OnOk, Option, Some, None, Ok, is_some, length};
 ghost use Rattle.crystal_cartan.specs.Types.{HasIndex};
 ghost use Rattle.tensor_words.specs.Spaces.{IsSpace, size};
+ghost use Rattle.tensor_words.specs.Worlds.{most_cells};
 ghost use Rattle.tableau_reading.specs.Shapes.{IsShape};
 ghost use Rattle.text_pieces.specs.Pieces.{words};
 ghost use Rattle.job_text.specs.declared.commands.Ask.TheVariants as ask;
@@ -194,7 +195,7 @@ impl Draft {
 
     /// The draft with this number of cells.
     pub fn with_cells(self, cells: u32) -> Draft
-        requires { (1 ≤ cells) × (cells ≤ 1048576) }
+        requires { (1 ≤ cells) × (cells ≤ most_cells) }
         ensures { result ≡ with_cells self cells }
     {
         let mut draft = self;

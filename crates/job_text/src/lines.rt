@@ -20,6 +20,7 @@ use crate::keys::{Key, Part, Rule, Version, is_between, is_count, rule_of};
 use crystal_cartan::Arrow;
 use std::alloc::Global;
 use tableau_reading::Shape;
+use tensor_words::MOST_CELLS;
 use text_pieces::{are_printed, behind, count_words, first, first_word};
 
 /// The most `start` lines, sessions, commands of a session, asks, and indices of a `demazure` ask.
@@ -32,9 +33,6 @@ const MOST_COMMANDS: usize = 4096;
 const MOST_ASKS: usize = 8;
 
 const MOST_INDICES: usize = 64;
-
-/// The most cells.
-const MOST_CELLS: u32 = 1_048_576;
 
 /// What a line makes of a state.
 #[tactic(auto, unfolding(crate::specs::Judge::line_made))]

@@ -2,7 +2,7 @@
 ghost use Rattle.std.specs.Prelude.{◌≡◌, ◌<◌, ◌≤◌, ◌^◌, [], ◌∷◌, ◌++◌, IfOk, OnOk, All, length};
 ghost use Rattle.std.specs.List.Sorted.{IsStrictlyIncreasing};
 ghost use Rattle.tensor_words.specs.Spaces.{IsSpace, size};
-ghost use Rattle.tensor_words.specs.Worlds.{IsWorld};
+ghost use Rattle.tensor_words.specs.Worlds.{IsWorld, most_cells};
 ghost use Rattle.job_text.specs.Jobs.{added_code, added_codes, roots_of};
 ghost use Rattle.job_text.specs.Drafts.{starts_from};
 
@@ -59,7 +59,7 @@ fn put_code(command: &Command, roots: &mut Vec<u64>) -> Result<(), AllocError>
 
 /// The world of a job.
 pub(crate) fn world_of(space: Space, cells: u32, roots: Vec<u64>) -> World
-    requires cells { (1 ≤ cells) × (cells ≤ 1048576) }
+    requires cells { (1 ≤ cells) × (cells ≤ most_cells) }
     requires rooted { 0 < length roots.items }
     requires few { length roots.items < 2 ^ 32 }
     requires ascending { IsStrictlyIncreasing roots.items }

@@ -4,3 +4,4 @@ pub mod BothPasses
 pub mod Lifting
 pub mod Lanes
 pub mod Vectors
+pub mod Paths

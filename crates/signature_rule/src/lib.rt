@@ -5,7 +5,8 @@
 //! words of a space make a seminormal crystal (`laws`).
 //!
 //! For many words, `places` finds where the operators of all indices act on a word, and the lengths of all its strings,
-//! by one pass over a space with tables; an operator is then a difference of codes.
+//! by one pass over a space with tables; an operator is then a difference of codes. `LastWord` (`last_word`) keeps these
+//! places from call to call, for callers that follow the arrows of one word after another.
 //!
 //! **The rule** is that of Bump and Schilling, Crystal Bases (2017), section 2.4. Each factor writes closing signs
 //! and then opening signs; an opening sign directly left of a closing sign is cancelled with it, until none stands so
@@ -15,7 +16,9 @@
 //! **Stands on** tensor_words, whose plain recursion it is compared with in its tests.
 #![tactic(auto)]
 
+mod arrow_order;
 mod brackets;
+mod last_word;
 mod laws;
 mod operators;
 #[cfg(test)]
@@ -25,6 +28,8 @@ mod raising;
 #[cfg(test)]
 mod tests;
 
+pub use arrow_order::arrow_at;
+pub use last_word::LastWord;
 pub use laws::{word_laws, words_are_seminormal};
 pub use operators::{act, eps, lower, phi, raise};
 pub use places::{ActingPlaces, Strings, lowered_code, places_of, raised_code, strings_of};

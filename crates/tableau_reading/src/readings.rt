@@ -28,7 +28,7 @@ impl Shape {
     }
 
     /// The row and the column, from 0, of the box at a place of the reading.
-    pub(crate) fn box_at(&self, place: u8) -> (u8, u8)
+    pub fn box_at(&self, place: u8) -> (u8, u8)
         requires { place < box_count self.now }
         ensures there { slice_index_or (boxes_read self.now) place (box 0 0) ≡ box result.0 result.1 }
         ensures row { result.0 < length self.now.rows }
@@ -39,7 +39,7 @@ impl Shape {
     }
 
     /// The place in the reading of the box in this row and column, from 0.
-    pub(crate) fn place_of(&self, row: u8, column: u8) -> u8
+    pub fn place_of(&self, row: u8, column: u8) -> u8
         requires { column < slice_index self.now.rows row }
         ensures place { result ≡ place self.now row column }
         ensures below { result < box_count self.now }
@@ -96,7 +96,7 @@ impl Shape {
     }
 
     /// The number of boxes in a column, from 0.
-    fn height(&self, column: u8) -> u8
+    pub fn height(&self, column: u8) -> u8
         ensures height { result ≡ height self.now.rows column }
         ensures few { result ≤ 9 }
         ensures shape { IsShape self.now }

@@ -10,6 +10,7 @@ use Rattle.vector_crystals.specs.Letters.{letter_count, letter_at}
 use Rattle.vector_crystals.specs.VectorCrystals.{digit_action, letter_weight}
 use Rattle.spin_crystals.specs.Signs.{has_half, half_size, signs_at}
 use Rattle.spin_crystals.specs.SpinCrystals.{spin_digit_action, signs_weight}
+use Rattle.spin_crystals.specs.declared.signs.Half.{Half}
 use Rattle.spin_crystals.specs.declared.signs.Half.TheVariants.{Whole, Plus, Minus}
 use Rattle.tensor_words.specs.declared.spaces.Factor.{Factor}
 use Rattle.tensor_words.specs.declared.spaces.Factor.TheVariants.{Vector, Spin, SpinPlus, SpinMinus}
@@ -38,6 +39,13 @@ has_factor k Vector = true
 has_factor k Spin = has_half k Whole
 has_factor k SpinPlus = has_half k Plus
 has_factor k SpinMinus = has_half k Minus
+
+-- the half of the spin crystal that a factor is, `None` for the vector crystal
+abbrev pub half_of : Factor → Option Half
+half_of Vector = None
+half_of Spin = Some Whole
+half_of SpinPlus = Some Plus
+half_of SpinMinus = Some Minus
 
 -- the number of elements of a factor; its elements are the digits below
 unfoldable pub base_size : CartanType → Factor → ℕ

@@ -10,11 +10,15 @@ pub record WorldType : Type 0 where
   pub cells : ℕ
   pub roots : List ℕ
 
+-- a world has from one to 2^20 cells
+abbrev pub most_cells : ℕ
+most_cells = 1048576
+
 -- the world is one of those that are taken
 pub record IsWorld (w : WorldType) : Type 0 where
   pub space : IsSpace w.space
   pub some : 1 ≤ w.cells
-  pub few : w.cells ≤ 1048576
+  pub few : w.cells ≤ most_cells
   pub rooted : 0 < length w.roots
   pub ascending : IsStrictlyIncreasing w.roots
   pub words : All (λ c. c < size w.space) w.roots
@@ -48,7 +52,7 @@ no_rise None = None
 -- the world, or the first fault that applies
 unfoldable pub world_of : SpaceType → ℕ → List ℕ → Result WorldType WorldFault
 world_of s cells roots =
-    if (cells == 0) || nat_lt 1048576 cells then Err CellsRange
+    if (cells == 0) || nat_lt most_cells cells then Err CellsRange
     else if length roots == 0 then Err NoRoot
     else fault_or (no_word (place_of_no_word (size s) 1 roots))
     (fault_or (no_rise (place_of_no_rise roots)) (Ok (record { space = s; cells = cells; roots = roots })))

@@ -1,18 +1,20 @@
-//! Elements of the base crystals, by their digits.
-ghost use Rattle.std.specs.Prelude.{◌≡◌, ℕ, ◌≤◌, ◌<◌, IsTrue, IfSome, All};
+//! Elements of the base crystals by their digits, with the operators on them and their weights.
+#![tactic(auto, unfolding(crate::specs::Spaces::base_action, crate::specs::Spaces::base_size, vector_crystals::specs::VectorCrystals::digit_action, spin_crystals::specs::SpinCrystals::spin_digit_action))]
+
+ghost use Rattle.std.specs.Prelude.{◌≡◌, ℕ, ◌≤◌, ◌<◌, IsTrue, IfSome, All, length};
 ghost use Rattle.crystal_cartan.specs.Types.{HasIndex};
 ghost use Rattle.crystal_cartan.specs.Weights.{IsWeight, IsWithin};
-ghost use Rattle.vector_crystals.specs.Letters.{IsLetter, letter_count, letter_at};
-ghost use Rattle.vector_crystals.specs.VectorCrystals.{digit_action, letter_weight};
-ghost use Rattle.spin_crystals.specs.Signs.{HasHalf, HasSpin, IsSigns, half_size, is_of_half, signs_at, vector_of};
-ghost use Rattle.spin_crystals.specs.SpinCrystals.{spin_digit_action, signs_weight};
+ghost use Rattle.vector_crystals.specs.Letters.{IsLetter, letter_count, letter_at, letter_digit};
+ghost use Rattle.spin_crystals.specs.Signs.{HasHalf, HasSpin, IsSigns, half_size, is_of_half, signs_at, signs_digit, vector_of};
+ghost use Rattle.tensor_words.specs.Spaces.{factor_at, size_at, base_action, base_weight};
 
+use crate::spaces::{Space, half_of};
 use crystal_cartan::{Cartan, Weight};
 use spin_crystals::{Half, Signs};
 use vector_crystals::Letter;
 
 /// The letter with this digit.
-pub(crate) fn letter(cartan: Cartan, digit: u16) -> Letter
+fn letter(cartan: Cartan, digit: u16) -> Letter
     requires { digit < letter_count cartan }
     ensures value { result.0 ≡ letter_at cartan digit }
     ensures letter { IsLetter cartan result.0 }
@@ -23,61 +25,18 @@ pub(crate) fn letter(cartan: Cartan, digit: u16) -> Letter
     }
 }
 
-#[tactic(auto, unfolding(vector_crystals::specs::VectorCrystals::digit_action))]
-pub(crate) fn letter_eps(cartan: Cartan, digit: u16, i: u8) -> u32
-    requires index { HasIndex cartan i }
-    requires digit { digit < letter_count cartan }
-    ensures value { result ≡ (digit_action cartan i).eps digit }
-    ensures small { result ≤ 2 }
-{
-    vector_crystals::eps(cartan, letter(cartan, digit), i)
-}
-
-#[tactic(auto, unfolding(vector_crystals::specs::VectorCrystals::digit_action))]
-pub(crate) fn letter_phi(cartan: Cartan, digit: u16, i: u8) -> u32
-    requires index { HasIndex cartan i }
-    requires digit { digit < letter_count cartan }
-    ensures value { result ≡ (digit_action cartan i).phi digit }
-    ensures small { result ≤ 2 }
-{
-    vector_crystals::phi(cartan, letter(cartan, digit), i)
-}
-
-#[tactic(auto, unfolding(vector_crystals::specs::VectorCrystals::digit_action))]
-pub(crate) fn letter_lower(cartan: Cartan, digit: u16, i: u8) -> Option<u16>
-    requires index { HasIndex cartan i }
-    requires digit { digit < letter_count cartan }
-    ensures value { result ≡ (digit_action cartan i).lower digit }
-    ensures below { IfSome result (λ d. d < letter_count cartan) }
+/// The digit of a letter.
+fn letter_digit(cartan: Cartan, x: Letter) -> u16
+    requires { IsLetter cartan x.0 }
+    ensures value { result ≡ letter_digit cartan x.0 }
+    ensures below { result < letter_count cartan }
 {
     let _size = vector_crystals::base_size(cartan);
-    let y = vector_crystals::lower(cartan, letter(cartan, digit), i)?;
-    Some(vector_crystals::digit(cartan, y) as u16)
-}
-
-#[tactic(auto, unfolding(vector_crystals::specs::VectorCrystals::digit_action))]
-pub(crate) fn letter_raise(cartan: Cartan, digit: u16, i: u8) -> Option<u16>
-    requires index { HasIndex cartan i }
-    requires digit { digit < letter_count cartan }
-    ensures value { result ≡ (digit_action cartan i).raise digit }
-    ensures below { IfSome result (λ d. d < letter_count cartan) }
-{
-    let _size = vector_crystals::base_size(cartan);
-    let y = vector_crystals::raise(cartan, letter(cartan, digit), i)?;
-    Some(vector_crystals::digit(cartan, y) as u16)
-}
-
-pub(crate) fn letter_weight(cartan: Cartan, digit: u16) -> Weight
-    requires { digit < letter_count cartan }
-    ensures value { result ≡ letter_weight cartan (letter_at cartan digit) }
-    ensures size { IsWeight cartan result }
-    ensures within { All (IsWithin 2) result }
-{
-    vector_crystals::weight(cartan, letter(cartan, digit))
+    vector_crystals::digit(cartan, x) as u16
 }
 
 /// The vector of signs with this digit.
-pub(crate) fn signs(cartan: Cartan, half: Half, digit: u16) -> Signs
+fn signs(cartan: Cartan, half: Half, digit: u16) -> Signs
     requires half { HasHalf cartan half }
     requires digit { digit < half_size half cartan.rank }
     ensures value { vector_of result ≡ signs_at half cartan.rank digit }
@@ -91,65 +50,104 @@ pub(crate) fn signs(cartan: Cartan, half: Half, digit: u16) -> Signs
     }
 }
 
-#[tactic(auto, unfolding(spin_crystals::specs::SpinCrystals::spin_digit_action))]
-pub(crate) fn signs_eps(cartan: Cartan, half: Half, digit: u16, i: u8) -> u32
-    requires index { HasIndex cartan i }
+/// The digit of a vector of signs.
+fn signs_digit(cartan: Cartan, half: Half, x: Signs) -> u16
     requires half { HasHalf cartan half }
-    requires digit { digit < half_size half cartan.rank }
-    ensures value { result ≡ (spin_digit_action cartan half i).eps digit }
-    ensures small { result ≤ 2 }
-{
-    let x = signs(cartan, half, digit);
-    spin_crystals::eps(cartan, x, i)
-}
-
-#[tactic(auto, unfolding(spin_crystals::specs::SpinCrystals::spin_digit_action))]
-pub(crate) fn signs_phi(cartan: Cartan, half: Half, digit: u16, i: u8) -> u32
-    requires index { HasIndex cartan i }
-    requires half { HasHalf cartan half }
-    requires digit { digit < half_size half cartan.rank }
-    ensures value { result ≡ (spin_digit_action cartan half i).phi digit }
-    ensures small { result ≤ 2 }
-{
-    let x = signs(cartan, half, digit);
-    spin_crystals::phi(cartan, x, i)
-}
-
-#[tactic(auto, unfolding(spin_crystals::specs::SpinCrystals::spin_digit_action))]
-pub(crate) fn signs_lower(cartan: Cartan, half: Half, digit: u16, i: u8) -> Option<u16>
-    requires index { HasIndex cartan i }
-    requires half { HasHalf cartan half }
-    requires digit { digit < half_size half cartan.rank }
-    ensures value { result ≡ (spin_digit_action cartan half i).lower digit }
-    ensures below { IfSome result (λ d. d < half_size half cartan.rank) }
+    requires element { IsSigns cartan x }
+    requires parity { IsTrue (is_of_half half (vector_of x)) }
+    ensures value { result ≡ signs_digit half (vector_of x) }
+    ensures below { result < half_size half cartan.rank }
 {
     let _size = spin_crystals::base_size(cartan, half);
-    let x = signs(cartan, half, digit);
-    let y = spin_crystals::lower(cartan, x, i)?;
-    Some(spin_crystals::digit(cartan, y, half) as u16)
+    spin_crystals::digit(cartan, x, half) as u16
 }
 
-#[tactic(auto, unfolding(spin_crystals::specs::SpinCrystals::spin_digit_action))]
-pub(crate) fn signs_raise(cartan: Cartan, half: Half, digit: u16, i: u8) -> Option<u16>
-    requires index { HasIndex cartan i }
-    requires half { HasHalf cartan half }
-    requires digit { digit < half_size half cartan.rank }
-    ensures value { result ≡ (spin_digit_action cartan half i).raise digit }
-    ensures below { IfSome result (λ d. d < half_size half cartan.rank) }
-{
-    let _size = spin_crystals::base_size(cartan, half);
-    let x = signs(cartan, half, digit);
-    let y = spin_crystals::raise(cartan, x, i)?;
-    Some(spin_crystals::digit(cartan, y, half) as u16)
-}
+impl Space {
+    /// How often e_i can be applied to the element with this digit of the factor at this place, counted from 0.
+    pub fn digit_eps(&self, place: u8, digit: u16, i: u8) -> u32
+        requires place { place < length self.now.factors }
+        requires digit { digit < size_at self.now place }
+        requires index { HasIndex self.now.cartan i }
+        ensures value { result ≡ (base_action self.now.cartan i (factor_at self.now place)).eps digit }
+        ensures small { result ≤ 2 }
+    {
+        let cartan = self.cartan();
+        match half_of(self.factor(place)) {
+            None => vector_crystals::eps(cartan, letter(cartan, digit), i),
+            Some(half) => spin_crystals::eps(cartan, signs(cartan, half, digit), i),
+        }
+    }
 
-pub(crate) fn signs_weight(cartan: Cartan, half: Half, digit: u16) -> Weight
-    requires half { HasHalf cartan half }
-    requires digit { digit < half_size half cartan.rank }
-    ensures value { result ≡ signs_weight cartan (signs_at half cartan.rank digit) }
-    ensures size { IsWeight cartan result }
-    ensures within { All (IsWithin 2) result }
-{
-    let x = signs(cartan, half, digit);
-    spin_crystals::weight(cartan, x)
+    /// How often f_i can be applied to the element with this digit of the factor at this place, counted from 0.
+    pub fn digit_phi(&self, place: u8, digit: u16, i: u8) -> u32
+        requires place { place < length self.now.factors }
+        requires digit { digit < size_at self.now place }
+        requires index { HasIndex self.now.cartan i }
+        ensures value { result ≡ (base_action self.now.cartan i (factor_at self.now place)).phi digit }
+        ensures small { result ≤ 2 }
+    {
+        let cartan = self.cartan();
+        match half_of(self.factor(place)) {
+            None => vector_crystals::phi(cartan, letter(cartan, digit), i),
+            Some(half) => spin_crystals::phi(cartan, signs(cartan, half, digit), i),
+        }
+    }
+
+    /// f_i on the element with this digit of the factor at this place, counted from 0: its digit, or `None` for zero.
+    pub fn digit_lower(&self, place: u8, digit: u16, i: u8) -> Option<u16>
+        requires place { place < length self.now.factors }
+        requires digit { digit < size_at self.now place }
+        requires index { HasIndex self.now.cartan i }
+        ensures value { result ≡ (base_action self.now.cartan i (factor_at self.now place)).lower digit }
+        ensures below { IfSome result (λ d. d < size_at self.now place) }
+    {
+        let cartan = self.cartan();
+        match half_of(self.factor(place)) {
+            None => {
+                let y = vector_crystals::lower(cartan, letter(cartan, digit), i)?;
+                Some(letter_digit(cartan, y))
+            }
+            Some(half) => {
+                let y = spin_crystals::lower(cartan, signs(cartan, half, digit), i)?;
+                Some(signs_digit(cartan, half, y))
+            }
+        }
+    }
+
+    /// e_i on the element with this digit of the factor at this place, counted from 0: its digit, or `None` for zero.
+    pub fn digit_raise(&self, place: u8, digit: u16, i: u8) -> Option<u16>
+        requires place { place < length self.now.factors }
+        requires digit { digit < size_at self.now place }
+        requires index { HasIndex self.now.cartan i }
+        ensures value { result ≡ (base_action self.now.cartan i (factor_at self.now place)).raise digit }
+        ensures below { IfSome result (λ d. d < size_at self.now place) }
+    {
+        let cartan = self.cartan();
+        match half_of(self.factor(place)) {
+            None => {
+                let y = vector_crystals::raise(cartan, letter(cartan, digit), i)?;
+                Some(letter_digit(cartan, y))
+            }
+            Some(half) => {
+                let y = spin_crystals::raise(cartan, signs(cartan, half, digit), i)?;
+                Some(signs_digit(cartan, half, y))
+            }
+        }
+    }
+
+    /// The weight of the element with this digit of the factor at this place, counted from 0.
+    #[tactic(auto, unfolding(crate::specs::Spaces::base_weight, crate::specs::Spaces::base_size))]
+    pub fn digit_weight(&self, place: u8, digit: u16) -> Weight
+        requires place { place < length self.now.factors }
+        requires digit { digit < size_at self.now place }
+        ensures value { result ≡ base_weight self.now.cartan (factor_at self.now place) digit }
+        ensures size { IsWeight self.now.cartan result }
+        ensures within { All (IsWithin 2) result }
+    {
+        let cartan = self.cartan();
+        match half_of(self.factor(place)) {
+            None => vector_crystals::weight(cartan, letter(cartan, digit)),
+            Some(half) => spin_crystals::weight(cartan, signs(cartan, half, digit)),
+        }
+    }
 }

@@ -39,4 +39,4 @@ pub use spaces::{Factor, Order, Space, SpaceFault};
 pub use steps::Steps;
 pub use tables::Row;
 pub use words::Word;
-pub use worlds::{Codes, World, WorldFault};
+pub use worlds::{Codes, MOST_CELLS, World, WorldFault};

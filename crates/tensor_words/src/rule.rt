@@ -2,91 +2,12 @@
 ghost use Rattle.std.specs.Prelude.{◌≡◌, ℕ, ◌+◌, ◌-◌, ◌*◌, ◌≤◌, ◌<◌, ◌++◌, length, take, drop, slice_index, IfSome};
 ghost use Rattle.std.specs.Option.{option_map};
 ghost use Rattle.crystal_cartan.specs.Types.{HasIndex};
-ghost use Rattle.tensor_words.specs.Spaces.{factor_at, size_at, base_action};
+ghost use Rattle.tensor_words.specs.Spaces.{size_at};
 ghost use Rattle.tensor_words.specs.Codes.{IsWord};
 ghost use Rattle.tensor_words.specs.TensorRule.{action, actions, word_phi, word_eps, word_lower, word_raise};
 
-use crate::elements::{
-    letter_eps, letter_lower, letter_phi, letter_raise, signs_eps, signs_lower, signs_phi,
-    signs_raise,
-};
-use crate::spaces::{Factor, Order, Space};
+use crate::spaces::{Order, Space};
 use crate::words::Word;
-use spin_crystals::Half;
-
-impl Space {
-    /// How often e_i can be applied to the element with this digit of the factor at this place, counted from 0.
-    #[tactic(auto, unfolding(crate::specs::Spaces::base_action, crate::specs::Spaces::base_size))]
-    pub fn digit_eps(&self, place: u8, digit: u16, i: u8) -> u32
-        requires place { place < length self.now.factors }
-        requires digit { digit < size_at self.now place }
-        requires index { HasIndex self.now.cartan i }
-        ensures value { result ≡ (base_action self.now.cartan i (factor_at self.now place)).eps digit }
-        ensures small { result ≤ 2 }
-    {
-        let cartan = self.cartan();
-        match self.factor(place) {
-            Factor::Vector => letter_eps(cartan, digit, i),
-            Factor::Spin => signs_eps(cartan, Half::Whole, digit, i),
-            Factor::SpinPlus => signs_eps(cartan, Half::Plus, digit, i),
-            Factor::SpinMinus => signs_eps(cartan, Half::Minus, digit, i),
-        }
-    }
-
-    /// How often f_i can be applied to the element with this digit of the factor at this place, counted from 0.
-    #[tactic(auto, unfolding(crate::specs::Spaces::base_action, crate::specs::Spaces::base_size))]
-    pub fn digit_phi(&self, place: u8, digit: u16, i: u8) -> u32
-        requires place { place < length self.now.factors }
-        requires digit { digit < size_at self.now place }
-        requires index { HasIndex self.now.cartan i }
-        ensures value { result ≡ (base_action self.now.cartan i (factor_at self.now place)).phi digit }
-        ensures small { result ≤ 2 }
-    {
-        let cartan = self.cartan();
-        match self.factor(place) {
-            Factor::Vector => letter_phi(cartan, digit, i),
-            Factor::Spin => signs_phi(cartan, Half::Whole, digit, i),
-            Factor::SpinPlus => signs_phi(cartan, Half::Plus, digit, i),
-            Factor::SpinMinus => signs_phi(cartan, Half::Minus, digit, i),
-        }
-    }
-
-    /// f_i on the element with this digit of the factor at this place, counted from 0: its digit, or `None` for zero.
-    #[tactic(auto, unfolding(crate::specs::Spaces::base_action, crate::specs::Spaces::base_size))]
-    pub fn digit_lower(&self, place: u8, digit: u16, i: u8) -> Option<u16>
-        requires place { place < length self.now.factors }
-        requires digit { digit < size_at self.now place }
-        requires index { HasIndex self.now.cartan i }
-        ensures value { result ≡ (base_action self.now.cartan i (factor_at self.now place)).lower digit }
-        ensures below { IfSome result (λ d. d < size_at self.now place) }
-    {
-        let cartan = self.cartan();
-        match self.factor(place) {
-            Factor::Vector => letter_lower(cartan, digit, i),
-            Factor::Spin => signs_lower(cartan, Half::Whole, digit, i),
-            Factor::SpinPlus => signs_lower(cartan, Half::Plus, digit, i),
-            Factor::SpinMinus => signs_lower(cartan, Half::Minus, digit, i),
-        }
-    }
-
-    /// e_i on the element with this digit of the factor at this place, counted from 0: its digit, or `None` for zero.
-    #[tactic(auto, unfolding(crate::specs::Spaces::base_action, crate::specs::Spaces::base_size))]
-    pub fn digit_raise(&self, place: u8, digit: u16, i: u8) -> Option<u16>
-        requires place { place < length self.now.factors }
-        requires digit { digit < size_at self.now place }
-        requires index { HasIndex self.now.cartan i }
-        ensures value { result ≡ (base_action self.now.cartan i (factor_at self.now place)).raise digit }
-        ensures below { IfSome result (λ d. d < size_at self.now place) }
-    {
-        let cartan = self.cartan();
-        match self.factor(place) {
-            Factor::Vector => letter_raise(cartan, digit, i),
-            Factor::Spin => signs_raise(cartan, Half::Whole, digit, i),
-            Factor::SpinPlus => signs_raise(cartan, Half::Plus, digit, i),
-            Factor::SpinMinus => signs_raise(cartan, Half::Minus, digit, i),
-        }
-    }
-}
 
 impl Space {
     /// f_i on a word, `None` for zero, by recursion on the first factor and the rest, in the order of the space.

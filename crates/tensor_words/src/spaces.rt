@@ -3,7 +3,7 @@ ghost use Rattle.std.specs.Prelude.{◌≡◌, ℕ, ◌≤◌, ◌<◌, ◌^◌,
 ghost use Rattle.std.specs.List.{list_all};
 ghost use Rattle.crystal_cartan.specs.Types.{IsCartan};
 ghost use Rattle.crystal_cartan.specs.Padded.{padded};
-ghost use Rattle.tensor_words.specs.Spaces.{IsSpace, space_of, has_factor, base_size, product, wrong_place, size, factor_at, size_at, ordered};
+ghost use Rattle.tensor_words.specs.Spaces.{IsSpace, space_of, has_factor, half_of, base_size, product, wrong_place, size, factor_at, size_at, ordered};
 
 use crystal_cartan::{Cartan, Kind};
 use spin_crystals::Half;
@@ -177,6 +177,18 @@ fn has_factor(kind: Kind, factor: Factor) -> bool
     }
 }
 
+/// The half of the spin crystal that a factor is, or `None` for the vector crystal.
+pub(crate) fn half_of(factor: Factor) -> Option<Half>
+    ensures { result ≡ half_of factor }
+{
+    match factor {
+        Factor::Vector => None,
+        Factor::Spin => Some(Half::Whole),
+        Factor::SpinPlus => Some(Half::Plus),
+        Factor::SpinMinus => Some(Half::Minus),
+    }
+}
+
 /// The first place, counted from 1, with a factor that the kind does not have.
 fn first_wrong_factor(kind: Kind, factors: &[Factor]) -> Option<u32>
     requires { length factors.now ≤ 40 }
@@ -200,11 +212,9 @@ fn size_of_factor(cartan: Cartan, factor: Factor) -> u32
     ensures some { 1 ≤ result }
     ensures few { result ≤ 256 }
 {
-    match factor {
-        Factor::Vector => vector_crystals::base_size(cartan),
-        Factor::Spin => spin_crystals::base_size(cartan, Half::Whole),
-        Factor::SpinPlus => spin_crystals::base_size(cartan, Half::Plus),
-        Factor::SpinMinus => spin_crystals::base_size(cartan, Half::Minus),
+    match half_of(factor) {
+        None => vector_crystals::base_size(cartan),
+        Some(half) => spin_crystals::base_size(cartan, half),
     }
 }
 

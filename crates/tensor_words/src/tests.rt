@@ -165,6 +165,8 @@ fn roots_of_a_world(rt: HostRuntime) -> Result<(), AllocError> {
     let space = made(Kind::A, 1, &[V, V]).expect(&rt, "A_1 has vectors");
     let none = World::new(space, 1, Codes::of(Vec::new(rt.alloc())));
     assert_eq!(rt; none.err(), Some(WorldFault::NoRoot));
+    let nothing = World::new(space, 0, Codes::of(Vec::new(rt.alloc())));
+    assert_eq!(rt; nothing.err(), Some(WorldFault::CellsRange));
     let roots = Codes::of(vec![in rt.alloc(); 1, 3]?);
     let world = World::new(space, 7, roots).expect(&rt, "the roots are words");
     assert!(rt; world.has_root(1) && world.has_root(3) && !world.has_root(2));

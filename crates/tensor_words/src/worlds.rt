@@ -7,7 +7,7 @@ use crate::spaces::Space;
 use std::marker::Model;
 
 /// The most cells of a world.
-const MOST_CELLS: u32 = 1_048_576;
+pub const MOST_CELLS: u32 = 1_048_576;
 
 /// A list of codes.
 #[derive(Debug, Drop)]

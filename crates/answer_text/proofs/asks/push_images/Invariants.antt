@@ -1,5 +1,6 @@
 use Rattle.std.proofs.Common.{◌≡◌, ◌++◌, take}
-use Rattle.answer_text.specs.Texts.{ended, numbered}
+use Rattle.crystal_streams.specs.Lines.{ended}
+use Rattle.answer_text.specs.Texts.{numbered}
 use Rattle.answer_text.specs.Asks.{image_line}
 use Rattle.answer_text.proofs.asks.push_images.Given as goal
 

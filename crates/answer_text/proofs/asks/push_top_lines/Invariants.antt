@@ -1,6 +1,6 @@
 use Rattle.std.proofs.Common.{◌≡◌, ◌++◌, take}
 use Rattle.std.specs.List.{flat_map}
-use Rattle.answer_text.specs.Texts.{ended}
+use Rattle.crystal_streams.specs.Lines.{ended}
 use Rattle.answer_text.specs.Asks.{top_line}
 use Rattle.answer_text.proofs.asks.push_top_lines.Given as goal
 

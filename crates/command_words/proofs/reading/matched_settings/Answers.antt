@@ -12,8 +12,8 @@ returns c =
     let found = found_of c.args.matches.now in
     let rows = rows_of found in
     same_line (map (λ name. name.now) c.args.names.now) (map (λ text. text.now) c.unwrap_or-more.result.now) (unwrap_or (all_of (codes "REST") rows) [])
-    (option_map (λ text. text.now) c.get_str-mode.result) (first_of (codes "MODE") rows) (option_map (λ text. text.now) c.get_str-growers.result) (first_of (codes "GROWERS") rows) c.line_settings.result
+    (option_map (λ text. text.now) c.get_str-mode.result) (first_of (codes "MODE") rows) (option_map (λ text. text.now) c.get_str-second.result) (first_of (codes "GROWERS") rows) c.line_settings.result
     (c.get_str-mode.ensures ∙ first_value-rows found (codes "MODE"))
-    (c.get_str-growers.ensures ∙ first_value-rows found (codes "GROWERS"))
+    (c.get_str-second.ensures ∙ first_value-rows found (codes "GROWERS"))
     (ap (λ (s : Bor (List (Bor (List ℕ)))). map (λ text. text.now) s.now) c.unwrap_or-more.ensures ∙ further_words c.get_strs.result _ _ refl (c.get_strs.ensures ∙ raw_values-rows found (codes "REST")))
     c.line_settings.ensures

@@ -3,7 +3,7 @@ use Rattle.std.specs.Prelude.{◌≡◌}
 use Rattle.tensor_words.specs.Spaces.{SpaceType}
 use Rattle.tensor_words.specs.Codes.{IsWord, code_of, word_of}
 use Rattle.signature_rule.specs.Places.{ArePlaces}
-use Rattle.graph_history.specs.declared.operators.Acting.{Acting}
+use Rattle.signature_rule.specs.declared.last_word.Acting.{Acting}
 
 -- the word is the one with the code, and its places are those of the space's operators
 pub record IsActing (s : SpaceType) (a : Acting) : Type 0 where
