@@ -3,6 +3,7 @@
 //!
 //!     rustc -C opt-level=3 -o yardstick yardstick.rs
 //!     ./yardstick [STATISTIC..] < JOB
+//!     ./yardstick growth < JOB            grows the graph of the starts and prints how that ended, and no more
 //!
 //! What makes it fast: a component is what lowering reaches from the tops of its roots; a word is its code, and an
 //! operator adds a multiple of a place value; a row of a table has all indices of an element, and one pass over the
@@ -435,6 +436,13 @@ struct Graph {
 
 /// The graph of the components of these roots, if there are cells for it.
 fn grown(space: &Space, roots: &[u64], cells: usize) -> Option<Graph> {
+    let (found, nexts) = found(space, roots, cells)?;
+    Some(numbered(&found, &nexts, space.cartan.rank))
+}
+
+/// The codes of the components of these roots, if there are cells for them, and the numbers of the codes to which the
+/// lowering operators lead.
+fn found(space: &Space, roots: &[u64], cells: usize) -> Option<(Vec<u64>, Vec<u32>)> {
     let rank = space.cartan.rank;
     let (mut found, mut nexts) = (Found::new(), vec![]);
     for &root in roots {
@@ -454,7 +462,7 @@ fn grown(space: &Space, roots: &[u64], cells: usize) -> Option<Graph> {
         }
         done += 1;
     }
-    Some(numbered(&found.codes, &nexts, rank))
+    Some((found.codes, nexts))
 }
 
 /// The graph of these codes, numbered in ascending order.
@@ -795,6 +803,11 @@ fn main() {
     let statistics: Vec<String> = std::env::args().skip(1).collect();
     let mut text = String::new();
     io::stdin().read_to_string(&mut text).unwrap_or_else(|_| fail("no text"));
+    if statistics == ["growth"] {
+        let job = read_job(&text);
+        println!("{}", if found(&job.space, &job.starts, job.cells).is_some() { "closed" } else { "full" });
+        return;
+    }
     let (out, status) = answer(&read_job(&text), &statistics);
     io::stdout().write_all(&out).unwrap_or_else(|_| exit(5));
     exit(status)

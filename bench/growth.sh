@@ -1,0 +1,53 @@
+#!/usr/bin/env bash
+# Times growth on the shared table (crates/growth_bench), by one grower and by four on threads of their own, beside the
+# growth of the yardstick (bench/yardstick.rs, plain Rust, one thread, a private table): the jobs c4 and d5 of bench/jobs.
+# From each time of the shared table that of a run is taken which makes the table and grows nothing. Prints the least of
+# several runs: processor time, user and system, with the ratio to the yardstick, and wall time, with how much faster
+# four growers are than one.
+#
+# Usage: bench/growth.sh [RUNS]    (7 runs where none is given)
+set -u
+cd "$(dirname "$0")/.." || exit 1
+runs=${1:-7}
+command -v rustc >/dev/null || { echo "rustc is not installed: nothing is timed"; exit 0; }
+mkdir -p bench/out
+rustc --edition 2021 -C opt-level=3 -o bench/out/yardstick bench/yardstick.rs || exit 1
+(cd crates/growth_bench && rt run > /dev/null) || exit 1
+python3 - "$runs" <<'PY'
+import resource, subprocess, sys, time
+from pathlib import Path
+
+runs = int(sys.argv[1])
+commands = {"yardstick": ["bench/out/yardstick", "growth"]}
+for growers in ("0", "1", "4"):
+    commands[growers] = ["crates/growth_bench/out/growth_bench", growers]
+
+
+def processor():
+    used = resource.getrusage(resource.RUSAGE_CHILDREN)
+    return used.ru_utime + used.ru_stime
+
+
+def measured(command, text):
+    """Processor and wall time of a run in ms, and what it printed."""
+    begin, before = time.perf_counter(), processor()
+    said = subprocess.run(command, input=text, capture_output=True, check=True).stdout.decode().strip()
+    return (processor() - before) * 1e3, (time.perf_counter() - begin) * 1e3, said
+
+
+print(f"{'job':>4} {'':>9} {'yardstick ms':>13} {'one ms':>8} {'four ms':>8} {'ratio':>6} {'faster':>7}")
+for name in ("c4", "d5"):
+    text = Path(f"bench/jobs/{name}.job").read_bytes()
+    best = {}
+    for _ in range(runs):
+        for which, command in commands.items():
+            used, wall, said = measured(command, text)
+            if said != ("begun" if which == "0" else "closed"):
+                sys.exit(f"{name}: {' '.join(command)} says {said}")
+            old = best.get(which, (used, wall))
+            best[which] = (min(old[0], used), min(old[1], wall))
+    for k, word in ((0, "processor"), (1, "wall")):
+        plain = best["yardstick"][k]
+        one, four = (best[growers][k] - best["0"][k] for growers in ("1", "4"))
+        print(f"{name:>4} {word:>9} {plain:13.1f} {one:8.1f} {four:8.1f} {one / plain:6.2f} {one / four:7.2f}")
+PY

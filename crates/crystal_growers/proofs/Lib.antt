@@ -1,0 +1,10 @@
+pub mod SharedSteps
+pub mod Drawings
+pub mod ExpandSteps
+pub mod VertexCodes
+pub mod Parts
+pub mod Histories
+pub mod DrawnCells
+pub mod Gathering
+pub mod Rounding
+pub mod Losses

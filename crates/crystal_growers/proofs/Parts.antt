@@ -1,0 +1,143 @@
+-- Lists of cells without some of them, and the parts of a list.
+use Rattle.std.proofs.Common.{◌≡◌, refl, sym, ap, ap₂, subst, ◌∙◌, ℕ, zero, suc, ◌+◌, ◌*◌, ◌<◌, ◌≤◌, ◌⊎◌, inl, inr, ◌||◌, Bool, true, false, not, nat_eq, cond, List, [], ◌∷◌, ◌++◌, length, filter, take, drop, Contains, true≢false, arith}
+use Rattle.std.specs.List.{IsDistinct, AllByRecursion}
+use Rattle.std.specs.Set.{is_member}
+use Rattle.std.proofs.lemmas.Grind.{common_steps}
+use Rattle.std.proofs.lemmas.List.{take-append-drop, take-take, drop-take, drop-drop, length-drop}
+use Rattle.std.proofs.lemmas.List.Elements.{filter-append, filter_agree, All-from_recursion, All-contains, Contains-append_left, Contains-append_right, Contains-append_cases, Contains-push_cases}
+use Rattle.std.proofs.lemmas.List.Folds.{list_any-append}
+use Rattle.graph_history.specs.Desks.{without}
+use Rattle.graph_history.proofs.CellLists.{into, out_of, not_in, part_of, part_has}
+use Rattle.crystal_growers.specs.Growth.{rest_of}
+use Rattle.crystal_growers.specs.Gather.{part_at}
+
+-- elements
+pub none_in : {X : Type 0} (c : X) → Contains [] c → ⊥
+none_in c (k, below, is) = omega arith
+
+pub first_in : {X : Type 0} (x : X) (xs : List X) → Contains (x ∷ xs) x
+first_in x xs = (0, omega arith, refl)
+
+pub later_in : {X : Type 0} (x : X) (xs : List X) (c : X) → Contains xs c → Contains (x ∷ xs) c
+later_in x xs c h = Contains-append_right (x ∷ []) xs c h
+
+pub head_or : {X : Type 0} (x : X) (xs : List X) (c : X) → Contains (x ∷ xs) c → (x ≡ c) ⊎ Contains xs c
+head_or x xs c h = elim (Contains-append_cases (x ∷ []) xs c h) [ inl l ↦ elim (Contains-push_cases [] x c l) [ inl n ↦ absurd (none_in c n) | inr e ↦ inl e ] | inr r ↦ inr r ]
+
+-- what is left of a list
+not_true : (b : Bool) → not b ≡ true → b ≡ false
+not_true true h = cc
+not_true false h = refl
+
+not_false : (b : Bool) → b ≡ false → not b ≡ true
+not_false true h = cc
+not_false false h = refl
+
+-- whether a list has a cell
+pub has_or_not : (cells : List ℕ) (c : ℕ) → Contains cells c ⊎ (Contains cells c → ⊥)
+has_or_not cells c = by (is_member nat_eq cells c) refl
+  where
+    by : (b : Bool) → is_member nat_eq cells c ≡ b → Contains cells c ⊎ (Contains cells c → ⊥)
+    by true is = inl (out_of cells c is)
+    by false is = inr (λ h. true≢false (sym (into cells c h) ∙ is))
+
+pub rest_in : (cells list : List ℕ) (c : ℕ) → Contains (rest_of cells list) c → Contains list c × (Contains cells c → ⊥)
+rest_in cells list c h =
+    let both = part_of (λ d. not (is_member nat_eq cells d)) list c h in
+    (both.0, λ there. true≢false (sym (into cells c there) ∙ not_true (is_member nat_eq cells c) both.1))
+
+pub rest_has : (cells list : List ℕ) (c : ℕ) → Contains list c → (Contains cells c → ⊥) → Contains (rest_of cells list) c
+rest_has cells list c h none = part_has (λ d. not (is_member nat_eq cells d)) list c h (not_false (is_member nat_eq cells c) (not_in cells c none))
+
+pub rest_same : (cells list : List ℕ) → ((c : ℕ) → Contains list c → Contains cells c → ⊥) → rest_of cells list ≡ list
+rest_same cells [] apart = refl
+rest_same cells (x ∷ xs) apart =
+    let here : is_member nat_eq cells x ≡ false = not_in cells x (apart x (first_in x xs)) in
+    let later : rest_of cells xs ≡ xs = rest_same cells xs (λ c h. apart c (later_in x xs c h)) in
+    rw here (ap (λ (l : List ℕ). x ∷ l) later)
+
+pub rest_none : (cells list : List ℕ) → rest_of cells (filter (is_member nat_eq cells) list) ≡ []
+rest_none cells [] = refl
+rest_none cells (x ∷ xs) = by (is_member nat_eq cells x) refl (rest_none cells xs)
+  where
+    by : (b : Bool) → is_member nat_eq cells x ≡ b → rest_of cells (filter (is_member nat_eq cells) xs) ≡ [] → rest_of cells (cond b (x ∷ filter (is_member nat_eq cells) xs) (filter (is_member nat_eq cells) xs)) ≡ []
+    by true is rest = rw is rest
+    by false is rest = rest
+
+pub rest_append : (cells xs ys : List ℕ) → rest_of cells (xs ++ ys) ≡ rest_of cells xs ++ rest_of cells ys
+rest_append cells xs ys = filter-append (λ c. not (is_member nat_eq cells c)) xs ys
+
+pub rest_both : (xs ys list : List ℕ) → rest_of ys (rest_of xs list) ≡ rest_of (xs ++ ys) list
+rest_both xs ys [] = refl
+rest_both xs ys (x ∷ list) = by (is_member nat_eq xs x) (is_member nat_eq ys x) refl refl (list_any-append (nat_eq x) xs ys) (rest_both xs ys list)
+  where
+    by : (a b : Bool) → is_member nat_eq xs x ≡ a → is_member nat_eq ys x ≡ b → is_member nat_eq (xs ++ ys) x ≡ (is_member nat_eq xs x || is_member nat_eq ys x)
+        → rest_of ys (rest_of xs list) ≡ rest_of (xs ++ ys) list → rest_of ys (rest_of xs (x ∷ list)) ≡ rest_of (xs ++ ys) (x ∷ list)
+    by true b p q both rest = rw (both, p) rest
+    by false true p q both rest = rw (both, p, q) rest
+    by false false p q both rest = rw (both, p, q) (ap (λ (l : List ℕ). x ∷ l) rest)
+
+pub without_is : (c : ℕ) (list : List ℕ) → without c list ≡ rest_of (c ∷ []) list
+without_is c list = filter_agree (λ d. not (nat_eq c d)) (λ d. not (is_member nat_eq (c ∷ []) d)) same list
+  where
+    same : (d : ℕ) → not (nat_eq c d) ≡ not (is_member nat_eq (c ∷ []) d)
+    same d = grind (arith, common_steps)
+
+-- what is left when further cells are taken out, which none of the added ones is
+pub rest_on : (xs ys old added : List ℕ) → ((c : ℕ) → Contains added c → Contains ys c → ⊥) → rest_of ys (rest_of xs old ++ added) ≡ rest_of (xs ++ ys) old ++ added
+rest_on xs ys old added apart = rest_append ys (rest_of xs old) added ∙ ap₂ (λ (k l : List ℕ). k ++ l) (rest_both xs ys old) (rest_same ys added apart)
+
+-- a list in which no cell stands twice, and its parts
+all_front : (P : ℕ → Type 0) (xs ys : List ℕ) → AllByRecursion P (xs ++ ys) → AllByRecursion P xs
+all_front P [] ys h = tt
+all_front P (x ∷ xs) ys h = (h.0, all_front P xs ys h.1)
+
+all_rest : (P : ℕ → Type 0) (xs ys : List ℕ) → AllByRecursion P (xs ++ ys) → AllByRecursion P ys
+all_rest P [] ys h = h
+all_rest P (x ∷ xs) ys h = all_rest P xs ys h.1
+
+same_test : (c : ℕ) → nat_eq c c ≡ false → ⊥
+same_test c h = grind (arith, common_steps)
+
+pub distinct_split : (xs ys : List ℕ) → IsDistinct nat_eq (xs ++ ys) → IsDistinct nat_eq xs × IsDistinct nat_eq ys × ((c : ℕ) → Contains xs c → Contains ys c → ⊥)
+unfolding IsDistinct
+distinct_split [] ys d = (tt, d, λ c h g. none_in c h)
+distinct_split (x ∷ xs) ys d =
+    let rest = distinct_split xs ys d.1 in
+    let apart : (c : ℕ) → Contains ys c → nat_eq x c ≡ false = λ c g. All-contains (λ y. nat_eq x y ≡ false) ys c (All-from_recursion (λ y. nat_eq x y ≡ false) ys (all_rest (λ y. nat_eq x y ≡ false) xs ys d.0)) g in (
+      (all_front (λ y. nat_eq x y ≡ false) xs ys d.0, rest.0),
+      rest.1,
+      λ c h g. elim (head_or x xs c h) [ inl e ↦ same_test c (subst (λ (y : ℕ). nat_eq y c ≡ false) e (apart c g)) | inr r ↦ rest.2 c r g ],
+    )
+
+-- the parts of a list, one after another
+take_both : (a n : ℕ) (xs : List ℕ) → take a xs ++ take n (drop a xs) ≡ take (a + n) xs
+take_both a n xs = ap₂ (λ (k l : List ℕ). k ++ l) (sym (take-take a (a + n) xs (omega arith))) (sym (drop-take a n xs)) ∙ take-append-drop a (take (a + n) xs)
+
+pub next_part : (list : List ℕ) (size k : ℕ) → take (k * size) list ++ part_at list size k ≡ take (suc k * size) list
+next_part list size k =
+    let e : k * size + size ≡ suc k * size = omega arith in
+    take_both (k * size) size list ∙ ap (λ (n : ℕ). take n list) e
+
+pub part_in : (list : List ℕ) (size k c : ℕ) → Contains (part_at list size k) c → Contains list c
+part_in list size k c h =
+    let inner = Contains-append_left (take size (drop (k * size) list)) (drop size (drop (k * size) list)) c h in
+    let dropped : Contains (drop (k * size) list) c = subst (λ (l : List ℕ). Contains l c) (take-append-drop size (drop (k * size) list)) inner in
+    subst (λ (l : List ℕ). Contains l c) (take-append-drop (k * size) list) (Contains-append_right (take (k * size) list) (drop (k * size) list) c dropped)
+
+-- a list in so many parts has each of its cells in one of them
+pub in_part : (total size : ℕ) (list : List ℕ) (c : ℕ) → length list ≤ total * size → Contains list c → (k : ℕ) × (k < total) × Contains (part_at list size k) c
+in_part zero size list c fits (k, below, is) = let none : 0 * size ≡ 0 = omega arith in absurd (omega arith)
+in_part (suc total) size list c fits h =
+    let whole : Contains (take size list ++ drop size list) c = subst (λ (l : List ℕ). Contains l c) (sym (take-append-drop size list)) h in
+    let less : length (drop size list) ≤ total * size = let d = length-drop size list in let e : suc total * size ≡ size + total * size = omega arith in omega arith in
+    elim (Contains-append_cases (take size list) (drop size list) c whole) [
+      | inl front ↦ let e : 0 ≡ 0 * size = omega arith in (zero, omega arith, subst (λ (n : ℕ). Contains (take size (drop n list)) c) e front)
+      | inr rest ↦
+          let r = in_part total size (drop size list) c less rest in
+          let e : size + r.0 * size ≡ suc r.0 * size = omega arith in (
+            suc r.0,
+            omega (arith, r.1),
+            subst (λ (l : List ℕ). Contains (take size l) c) (drop-drop (r.0 * size) size list ∙ ap (λ (n : ℕ). drop n list) e) r.2,
+          )
+    ]

@@ -1,0 +1,50 @@
+-- What an expansion of a cell tells.
+use Rattle.std.specs.Prelude.{ℕ, ◌*◌, ◌≡◌, Bool, true, false, ⊤, List, [], ◌∷◌, ◌++◌, Some, None, All, Result, Ok, Err}
+use Rattle.crystal_cartan.specs.declared.types.Arrow.{Arrow}
+use Rattle.tensor_words.specs.Operators.{IsArrow, op}
+use Rattle.tensor_words.specs.Spaces.{SpaceType}
+use Rattle.tensor_words.specs.Worlds.{WorldType}
+use Rattle.graph_history.specs.declared.event.Origin.TheVariants.{By}
+use Rattle.graph_history.specs.declared.event.Act.{Act}
+use Rattle.graph_history.specs.declared.event.Act.TheVariants.{Added, Spent, Settled}
+use Rattle.graph_history.specs.declared.event.Event.{Event}
+use Rattle.graph_history.specs.History.{state_of, HasVertex, IsWhole}
+use Rattle.graph_history.specs.Desks.{Standing, Goes, added_cells}
+use Rattle.crystal_growers.specs.declared.rows.Spent.{Spent as SpentAnswer}
+
+-- an act of an expansion of the cell c, whose code is y: what is put in comes by an arrow of the cell, and a word that
+-- finds no cell is an operator's at y
+abbrev pub IsGrowthAct : SpaceType → ℕ → ℕ → Act → Type 0
+IsGrowthAct s c y (Added d x o) = (a : Arrow) × (o ≡ By c a)
+IsGrowthAct s c y (Spent x) = (a : Arrow) × IsArrow s a × (op s a y ≡ Some x)
+IsGrowthAct s c y _ = ⊤
+
+-- the acts by which arrows of the cell c, whose code is y, were drawn, with at most so many places of the room
+pub record Expanding {Bond : Type 0} (old new : Standing Bond) (c y places : ℕ) (acts : List Act) : Type 0 where
+  pub goes : Goes old new places acts
+  pub growth : All (IsGrowthAct old.world.space c y) acts
+  pub unpaid : new.unpaid ≡ old.unpaid ++ added_cells acts
+
+-- a debt that was owed for a word that found no cell is taken back
+abbrev pub taken_back : Bool → List Act
+taken_back true = Settled None ∷ []
+taken_back false = []
+
+-- the acts end where the code x found no cell
+pub record EndsSpent (acts : List Act) (x : ℕ) : Type 0 where
+  pub before : List Act
+  pub owed : Bool
+  pub is : acts ≡ before ++ Spent x ∷ taken_back owed
+
+-- all arrows of the cell are drawn; or some operator's word found no cell
+abbrev pub Ended : WorldType → List Event → ℕ → List Act → Result Unit SpentAnswer → Type 0
+Ended w h c acts (Ok done) = IsWhole w (state_of h) c
+Ended w h c acts (Err e) = EndsSpent acts e.code
+
+-- what `expand` tells
+pub record Expanded {Bond : Type 0} (old new : Standing Bond) (c : ℕ) (answer : Result Unit SpentAnswer) : Type 0 where
+  pub code : ℕ
+  pub there : HasVertex (state_of old.front) c code
+  pub acts : List Act
+  pub run : Expanding old new c code (2 * old.world.space.cartan.rank) acts
+  pub ended : Ended old.world new.front c acts answer

@@ -1,0 +1,65 @@
+//! The growth of a world's graph from its first root.
+ghost use Rattle.std.specs.Prelude.{◌≡◌, ◌≤◌, Contains};
+ghost use Rattle.graph_rule.specs.Parting.{first_view};
+
+use crystal_growers::{Grown, grow};
+use crystal_streams::{NoMemory, OpenGate};
+use graph_history::{Added, Origin};
+use graph_rule::{Graph, Seat};
+use intern_cells::add;
+use std::alloc::Global;
+use std::thread::Threads;
+use tensor_words::World;
+
+/// How a growth ends.
+#[derive(Clone, Copy, Debug, PartialEq, Eq)]
+pub enum Ending {
+    /// Nothing was grown.
+    Begun,
+    /// All arrows are drawn.
+    Closed,
+    /// There were too few cells.
+    Full,
+}
+
+/// Grows the graph of a world from its first root alone, with so many growers; with none nothing is grown.
+pub fn run<R: Threads + Sync>(
+    rt: &R,
+    alloc: Global,
+    world: World,
+    growers: u32,
+) -> Result<Ending, NoMemory>
+    requires { growers ≤ 16 }
+{
+    let (graph, seat) = Graph::new(alloc, world)?;
+    let root = graph.world().roots().at(0);
+    grow_from(rt, alloc, &graph, seat, root, growers)
+}
+
+/// Puts in a root at the first seat of a graph, and grows from its cell.
+fn grow_from<R: Threads + Sync>(
+    rt: &R,
+    alloc: Global,
+    graph: &Graph,
+    mut seat: Seat,
+    root: u64,
+    growers: u32,
+) -> Result<Ending, NoMemory>
+    requires table { seat.table ≡ graph.now.table }
+    requires new { seat.view ≡ first_view graph.now.world }
+    requires root { Contains graph.now.world.roots root }
+    requires growers { growers ≤ 16 }
+{
+    let Added::New { cell } = add(graph, &mut seat, root, Origin::Root) else {
+        return Ok(Ending::Full);
+    };
+    if growers == 0 {
+        return Ok(Ending::Begun);
+    }
+    let _stake = seat.stake();
+    let cells = Vec::from_array(alloc, [cell])?;
+    match grow(rt, alloc, graph, &mut seat, cells, growers, &OpenGate)? {
+        Grown::Closed => Ok(Ending::Closed),
+        Grown::Full { .. } => Ok(Ending::Full),
+    }
+}
