@@ -1,0 +1,7 @@
+use Rattle.std.proofs.Common.{rules}
+use Rattle.std.proofs.lemmas.List.Sorted.{IsNonDecreasingBy-from_sort_by_key}
+use Rattle.crystal_match.proofs.search.Search.pairs.Goals as goal
+
+pub returns-clause-ascending : goal.returns-clause-ascending
+returns-clause-ascending c =
+    rw c.of.ensures (IsNonDecreasingBy-from_sort_by_key (λ x. x.0) _ c.sort_unstable_by_key.ensures.sorted (λ a r q k. search rules))

@@ -1,0 +1,5 @@
+pub mod Relabelling
+pub mod Listings
+pub mod Telling
+pub mod Matching
+pub mod Search

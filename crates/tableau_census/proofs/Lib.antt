@@ -1,0 +1,12 @@
+pub mod OpenPlaces
+pub mod VectorSteps
+pub mod ShapeWords
+pub mod Neighbours
+pub mod Kept
+pub mod Highest
+pub mod Bounded
+pub mod Listed
+pub mod Reached
+pub mod Letters
+pub mod Theorem
+pub mod Completing
