@@ -156,10 +156,10 @@ class Script(unittest.TestCase):
 
     def test_every_fault_has_a_meaning(self):
         guide = (TOP / "docs" / "JOB.md").read_text()
-        for heading, faults in [("### Refused words", 8), ("### Refused jobs", 14)]:
+        for heading, faults in [("### Refused words", [*range(1, 11)]), ("### Refused jobs", [*range(1, 15), 16])]:
             table = guide.split(heading + "\n")[1].split("\n#")[0]
             numbers = sorted(int(row.split("|")[1]) for row in table.split("\n") if row.startswith("| ") and row[2].isdigit())
-            self.assertEqual(numbers, list(range(1, faults + 1)))
+            self.assertEqual(numbers, faults)
 
     def test_an_answer_is_left_alone(self):
         ran = crystal("grow", "1", job=(TOP / "jobs" / "first.job").read_text())

@@ -1,130 +1,106 @@
 -- The status of an answer is determined, and with its history its text.
-use Rattle.std.proofs.Common.{arith, ◌≡◌, refl, sym, ap, ap₂, ◌∙◌, subst, ℕ, ◌+◌, ◌<◌, List, [], length, get_or, slice_index, slice_index_or, Some, Result, Ok, Err}
+use Rattle.std.proofs.Common.{arith, ◌≡◌, refl, sym, ap, ap₂, ◌∙◌, subst, ℕ, ◌+◌, ◌<◌, ◌≤◌, List, [], length, get_or, slice_index, slice_index_or, Some, Contains}
 use Rattle.std.proofs.lemmas.List.{ext_get_or}
-use Rattle.tensor_words.specs.Reach.{IsComponentList}
 use Rattle.tensor_words.proofs.Walks.{component_list_is_unique}
+use Rattle.tensor_words.specs.Spaces.{SpaceType}
+use Rattle.tensor_words.specs.Worlds.{WorldType}
+use Rattle.canonical_graph.specs.Graphs.{FinishedType, finished_graph}
 use Rattle.graph_history.specs.declared.event.Event.{Event}
 use Rattle.graph_history.specs.History.{calls}
-use Rattle.command_words.specs.declared.fault.WordsFault.{WordsFault}
-use Rattle.command_words.specs.declared.settings.Settings.{Settings}
-use Rattle.command_words.specs.declared.settings.Settings.TheVariants.{Grow}
-use Rattle.job_text.specs.Faults.{Refusal, why_number}
+use Rattle.job_text.specs.declared.commands.Command.{Command}
 use Rattle.job_text.specs.declared.jobs.Job.{Job}
 use Rattle.session_desk.specs.declared.reply.Reply.{Reply}
 use Rattle.session_desk.specs.Replies.{replies}
 use Rattle.crystal_characters.specs.Items.{items_of}
 use Rattle.ask_answers.specs.Answers.{AreAnswers}
 use Rattle.ask_answers.proofs.OneAnswer.{answers_one}
-use Rattle.answer_text.specs.Texts.{job_refusal}
-use Rattle.crystal_shell.specs.Statistics.{Reporter, names_of, statistics_text}
-use Rattle.crystal_shell.specs.Answers.{IsHistory, Gives, too_long, refused, whole, full, whole_text, full_text, graph_of, Chooses, words_refused, called}
+use Rattle.tableau_reading.specs.Shapes.{ShapeType}
+use Rattle.command_words.specs.declared.settings.Relabelling.{Relabelling}
+use Rattle.answer_text.specs.Modes.{differs_line, same_line}
+use Rattle.crystal_cartan.specs.declared.types.Arrow.{Arrow}
+use Rattle.crystal_shell.specs.Statistics.{Reporter, statistics_text}
+use Rattle.crystal_shell.specs.Inputs.{judged_input}
+use Rattle.crystal_shell.specs.Histories.{IsGraph, IsHistory}
+use Rattle.crystal_shell.specs.Answers.{Calls, Compares, Counts, Grows, call_census, call_grow, call_match, call_refused, census_limit, census_text, count_full, count_listed, full_text, grow_full, grow_refused, grow_whole, marked, match_differ, match_few, match_full, match_refused, match_same, match_text, whole_text}
 use Rattle.crystal_shell.specs.Laws.{AnswersAreDetermined}
-use Rattle.crystal_shell.proofs.Words.{refuses_once, not_both}
+use Rattle.crystal_shell.specs.declared.hearing.Heard.{Heard}
+use Rattle.crystal_shell.specs.declared.inputs.Input.{Input}
+use Rattle.crystal_shell.specs.declared.outcomes.Status.{Status}
+use Rattle.crystal_shell.proofs.Verdicts.{list_unique, not_both, pairs_as_many, same_told, walk_unique}
 
 -- what is determined of two answers
-abbrev AreOne : ℕ → ℕ → List Event → List Event → List ℕ → List ℕ → Type 0
+abbrev AreOne : Status → Status → List Event → List Event → List ℕ → List ℕ → Type 0
 AreOne s t f g x y = (s ≡ t) × (f ≡ g → x ≡ y)
 
 -- the replies of a history
-replies_one : (job : Job) (f g : List Event) (told others : List (List Reply)) → f ≡ g → IsHistory job f told → IsHistory job g others → told ≡ others
-replies_one job f g told others same p q = ext_get_or [] told others (p.count ∙ sym q.count) (λ k below.
-    let within : k < length job.scripts = omega (arith, below, p.count) in
-    let front : replies job.world.space (slice_index_or job.scripts k []) (calls f (k + 1)) ≡ replies job.world.space (slice_index_or job.scripts k []) (calls g (k + 1)) =
-    ap (λ (h : List Event). replies job.world.space (slice_index_or job.scripts k []) (calls h (k + 1))) same in
+replies_one : (w : WorldType) (starts : List ℕ) (scripts : List (List Command)) (f g : List Event) (told others : List (List Reply)) → f ≡ g
+    → IsHistory w starts scripts f told → IsHistory w starts scripts g others → told ≡ others
+replies_one w starts scripts f g told others same p q = ext_get_or [] told others (p.count ∙ sym q.count) (λ k below.
+    let within : k < length scripts = omega (arith, below, p.count) in
+    let front : replies w.space (slice_index_or scripts k []) (calls f (k + 1)) ≡ replies w.space (slice_index_or scripts k []) (calls g (k + 1)) =
+    ap (λ (h : List Event). replies w.space (slice_index_or scripts k []) (calls h (k + 1))) same in
     let both : Some (get_or told k []) ≡ Some (get_or others k []) = sym (p.replied k within) ∙ front ∙ q.replied k within in
     cc)
 
--- the text of a job whose graph is finished
-record IsWhole (reporters : List Reporter) (places : List ℕ) (job : Job) (front : List Event) (text : List ℕ) : Type 0 where
-  list : List ℕ
-  told : List (List Reply)
-  answers : List ℕ
-  history : IsHistory job front told
-  listed : IsComponentList job.world list
-  asked : AreAnswers (graph_of job list) (slice_index job.starts 0) job.asks answers
-  shown : text ≡ whole_text (graph_of job list) told (statistics_text reporters places (items_of (graph_of job list))) answers
+-- the graph of a world
+graphs_one : (w : WorldType) (f g : FinishedType) → IsGraph w f → IsGraph w g → f ≡ g
+graphs_one w f g p q =
+    ap₂ finished_graph (p.space ∙ sym q.space) (component_list_is_unique w f.codes g.codes p.list q.list)
 
-whole_one : (reporters : List Reporter) (places : List ℕ) (job : Job) (f g : List Event) (x y : List ℕ) → IsWhole reporters places job f x → IsWhole reporters places job g y → f ≡ g → x ≡ y
-whole_one reporters places job f g x y p q same =
-    let told : p.told ≡ q.told = replies_one job f g p.told q.told same p.history q.history in
-    let list : p.list ≡ q.list = component_list_is_unique job.world p.list q.list p.listed q.listed in
-    let asked : AreAnswers (graph_of job q.list) (slice_index job.starts 0) job.asks p.answers =
-    subst (λ (l : List ℕ). AreAnswers (graph_of job l) (slice_index job.starts 0) job.asks p.answers) list p.asked in
-    let answers : p.answers ≡ q.answers = answers_one (graph_of job q.list) (slice_index job.starts 0) job.asks p.answers q.answers asked q.asked in
-    p.shown
-    ∙ ap (λ (l : List ℕ). whole_text (graph_of job l) p.told (statistics_text reporters places (items_of (graph_of job l))) p.answers) list
-    ∙ ap₂ (λ (t : List (List Reply)) (a : List ℕ). whole_text (graph_of job q.list) t (statistics_text reporters places (items_of (graph_of job q.list))) a) told answers
-    ∙ sym q.shown
+whole_one : (reporters : List Reporter) (places : List ℕ) (job : Job) (f g : FinishedType) (told others : List (List Reply)) (answers replies : List ℕ) → f ≡ g → told ≡ others
+    → AreAnswers f (slice_index job.starts 0) job.asks answers → AreAnswers g (slice_index job.starts 0) job.asks replies
+    → whole_text f told (statistics_text reporters places (items_of f)) answers ≡ whole_text g others (statistics_text reporters places (items_of g)) replies
+whole_one reporters places job f g told others answers replies same alike p q =
+    let asked : AreAnswers g (slice_index job.starts 0) job.asks answers = subst (λ (h : FinishedType). AreAnswers h (slice_index job.starts 0) job.asks answers) same p in
+    let one : answers ≡ replies = answers_one g (slice_index job.starts 0) job.asks answers replies asked q in
+    ap (λ (h : FinishedType). whole_text h told (statistics_text reporters places (items_of h)) answers) same
+    ∙ ap₂ (λ (t : List (List Reply)) (a : List ℕ). whole_text g t (statistics_text reporters places (items_of g)) a) alike one
 
--- the text of a job with more reached words than cells
-record IsFull (job : Job) (front : List Event) (text : List ℕ) : Type 0 where
-  told : List (List Reply)
-  history : IsHistory job front told
-  shown : text ≡ full_text job.world told
+grows_one : (reporters : List Reporter) (places : List ℕ) (input : Input) (s t : Status) (f g : List Event) (x y : List ℕ) → Grows reporters places input s f x
+    → Grows reporters places input t g y → AreOne s t f g x y
+grows_one reporters places input s t f g x y (grow_refused line fault) (grow_refused line' fault') = (refl, λ same. refl)
+grows_one reporters places input s t f g x y (grow_whole job a front told answers history graph asked) (grow_whole job' b front' told' answers' history' graph' asked') = (
+  refl,
+  λ same. whole_one reporters places job a b told told' answers answers' (graphs_one job.world a b graph graph')
+      (replies_one job.world job.starts job.scripts front front' told told' same history history') asked asked',
+)
+grows_one reporters places input s t f g x y (grow_whole job a front told answers history graph asked) (grow_full job' front' told' history' more) = absurd (graph.fits more)
+grows_one reporters places input s t f g x y (grow_full job front told history more) (grow_whole job' b front' told' answers' history' graph' asked') = absurd (graph'.fits more)
+grows_one reporters places input s t f g x y (grow_full job front told history more) (grow_full job' front' told' history' more') =
+    (refl, λ same. ap (full_text job.world.space) (replies_one job.world job.starts job.scripts front front' told told' same history history'))
 
-full_one : (job : Job) (f g : List Event) (x y : List ℕ) → IsFull job f x → IsFull job g y → f ≡ g → x ≡ y
-full_one job f g x y p q same =
-    p.shown ∙ ap (full_text job.world) (replies_one job f g p.told q.told same p.history q.history) ∙ sym q.shown
+counts_one : (shape : ShapeType) (s t : Status) (x y : List ℕ) → Counts shape s x → Counts shape t y → (s ≡ t) × (x ≡ y)
+counts_one shape s t x y (count_listed list is) (count_listed other is') = (refl, ap (census_text shape) (list_unique shape census_limit list other is is'))
+counts_one shape s t x y (count_listed list is) (count_full many) = absurd (not_both shape census_limit list is many)
+counts_one shape s t x y (count_full many) (count_listed list is) = absurd (not_both shape census_limit list is many)
+counts_one shape s t x y (count_full many) (count_full many') = (refl, refl)
 
-gives_one : (reporters : List Reporter) (places input : List ℕ) (s t : ℕ) (f g : List Event) (x y : List ℕ) → Gives reporters places input s f x → Gives reporters places input t g y
-    → AreOne s t f g x y
-gives_one reporters places input s t f g x y (too_long long) (too_long long') = (refl, λ same. refl)
-gives_one reporters places input s t f g x y (too_long long) (refused r short judged) = absurd (omega (arith, long, short))
-gives_one reporters places input s t f g x y (too_long long) (whole job list front told answers short judged history listed fits asked) = absurd (omega (arith, long, short))
-gives_one reporters places input s t f g x y (too_long long) (full job front told short judged history more) = absurd (omega (arith, long, short))
-gives_one reporters places input s t f g x y (refused r short judged) (too_long long) = absurd (omega (arith, long, short))
-gives_one reporters places input s t f g x y (refused r short judged) (refused r' short' judged') =
-    let both : ◌≡◌ {A = Result Job Refusal} (Err r) (Err r') = sym judged ∙ judged' in
-    let fault : r ≡ r' = cc in
-    (refl, λ same. ap (λ (e : Refusal). job_refusal e.line (why_number e.why)) fault)
-gives_one reporters places input s t f g x y (refused r short judged) (whole job list front told answers short' judged' history listed fits asked) =
-    let clash : ◌≡◌ {A = Result Job Refusal} (Err r) (Ok job) = sym judged ∙ judged' in absurd (cc)
-gives_one reporters places input s t f g x y (refused r short judged) (full job front told short' judged' history more) =
-    let clash : ◌≡◌ {A = Result Job Refusal} (Err r) (Ok job) = sym judged ∙ judged' in absurd (cc)
-gives_one reporters places input s t f g x y (whole job list front told answers short judged history listed fits asked) (too_long long) = absurd (omega (arith, long, short))
-gives_one reporters places input s t f g x y (whole job list front told answers short judged history listed fits asked) (refused r short' judged') =
-    let clash : ◌≡◌ {A = Result Job Refusal} (Err r) (Ok job) = sym judged' ∙ judged in absurd (cc)
-gives_one reporters places input s t f g x y (whole job list front told answers short judged history listed fits asked)
-    (whole job' list' front' told' answers' short' judged' history' listed' fits' asked') =
-    let both : ◌≡◌ {A = Result Job Refusal} (Ok job) (Ok job') = sym judged ∙ judged' in
-    let same : job ≡ job' = cc in
-    let text : List ℕ = whole_text (graph_of job list) told (statistics_text reporters places (items_of (graph_of job list))) answers in
-    let text' : List ℕ = whole_text (graph_of job' list') told' (statistics_text reporters places (items_of (graph_of job' list'))) answers' in
-    let p : IsWhole reporters places job front text = record { list = list; told = told; answers = answers; history = history; listed = listed; asked = asked; shown = refl } in
-    let q : IsWhole reporters places job' front' text' = record { list = list'; told = told'; answers = answers'; history = history'; listed = listed'; asked = asked'; shown = refl } in
-    (refl, whole_one reporters places job front front' text text' p (subst (λ (j : Job). IsWhole reporters places j front' text') (sym same) q))
-gives_one reporters places input s t f g x y (whole job list front told answers short judged history listed fits asked) (full job' front' told' short' judged' history' more) =
-    let both : ◌≡◌ {A = Result Job Refusal} (Ok job) (Ok job') = sym judged ∙ judged' in
-    let same : job ≡ job' = cc in
-    absurd (fits (rw same more))
-gives_one reporters places input s t f g x y (full job front told short judged history more) (too_long long) = absurd (omega (arith, long, short))
-gives_one reporters places input s t f g x y (full job front told short judged history more) (refused r short' judged') =
-    let clash : ◌≡◌ {A = Result Job Refusal} (Err r) (Ok job) = sym judged' ∙ judged in absurd (cc)
-gives_one reporters places input s t f g x y (full job front told short judged history more) (whole job' list' front' told' answers' short' judged' history' listed' fits' asked') =
-    let both : ◌≡◌ {A = Result Job Refusal} (Ok job) (Ok job') = sym judged ∙ judged' in
-    let same : job ≡ job' = cc in
-    absurd (fits' (rw (← same) more))
-gives_one reporters places input s t f g x y (full job front told short judged history more) (full job' front' told' short' judged' history' more') =
-    let both : ◌≡◌ {A = Result Job Refusal} (Ok job) (Ok job') = sym judged ∙ judged' in
-    let same : job ≡ job' = cc in
-    let p : IsFull job front (full_text job.world told) = record { told = told; history = history; shown = refl } in
-    let q : IsFull job' front' (full_text job'.world told') = record { told = told'; history = history'; shown = refl } in
-    (refl, full_one job front front' (full_text job.world told) (full_text job'.world told') p (subst (λ (j : Job). IsFull j front' (full_text job'.world told')) (sym same) q))
-
--- the places that the command words choose
-chosen_one : (words names : List (List ℕ)) (places others : List ℕ) → Chooses words names places → Chooses words names others → places ≡ others
-chosen_one words names places others p q =
-    let both : ◌≡◌ {A = Result Settings WordsFault} (Ok (Grow p.growers places)) (Ok (Grow q.growers others)) = sym p.judged ∙ q.judged in
-    cc
+compares_one : (r : Relabelling) (input : Input) (s t : Status) (x y : List ℕ) → Compares r input s x → Compares r input t y → (s ≡ t) × (x ≡ y)
+compares_one r input s t x y (match_refused line fault) (match_refused line' fault') = (refl, refl)
+compares_one r input s t x y (match_few job few) (match_few job' few') = (refl, refl)
+compares_one r input s t x y (match_few job few) (match_same job' pairs two same fits) = absurd (omega (arith, few, two))
+compares_one r input s t x y (match_few job few) (match_differ job' walk two first fits) = absurd (omega (arith, few, two))
+compares_one r input s t x y (match_few job few) (match_full job' two many) = absurd (omega (arith, few, two))
+compares_one r input s t x y (match_same job pairs two same fits) (match_few job' few) = absurd (omega (arith, few, two))
+compares_one r input s t x y (match_same job pairs two same fits) (match_same job' others two' same' fits') =
+    (refl, ap (λ (n : ℕ). match_text job.world.space.cartan (same_line n)) (pairs_as_many (marked r job) pairs others same same'))
+compares_one r input s t x y (match_same job pairs two same fits) (match_differ job' walk two' first fits') = absurd (same_told (marked r job) pairs walk same first)
+compares_one r input s t x y (match_same job pairs two same fits) (match_full job' two' many) = absurd (fits many)
+compares_one r input s t x y (match_differ job walk two first fits) (match_few job' few) = absurd (omega (arith, few, two))
+compares_one r input s t x y (match_differ job walk two first fits) (match_same job' pairs two' same fits') = absurd (same_told (marked r job) pairs walk same first)
+compares_one r input s t x y (match_differ job walk two first fits) (match_differ job' other two' first' fits') =
+    (refl, ap (λ (path : List Arrow). match_text job.world.space.cartan (differs_line path)) (walk_unique (marked r job) walk other first first'))
+compares_one r input s t x y (match_differ job walk two first fits) (match_full job' two' many) = absurd (fits many)
+compares_one r input s t x y (match_full job two many) (match_few job' few) = absurd (omega (arith, few, two))
+compares_one r input s t x y (match_full job two many) (match_same job' pairs two' same fits) = absurd (fits many)
+compares_one r input s t x y (match_full job two many) (match_differ job' walk two' first fits) = absurd (fits many)
+compares_one r input s t x y (match_full job two many) (match_full job' two' many') = (refl, refl)
 
 pub answers_are_determined : AnswersAreDetermined
-answers_are_determined reporters words input s t f g x y (words_refused text refusal) (words_refused text' refusal') =
-    (refl, λ same. refuses_once words (names_of reporters) text text' refusal refusal')
-answers_are_determined reporters words input s t f g x y (words_refused text refusal) (called places status front text' chosen call) =
-    absurd (not_both words (names_of reporters) places text chosen refusal)
-answers_are_determined reporters words input s t f g x y (called places status front text chosen call) (words_refused text' refusal) =
-    absurd (not_both words (names_of reporters) places text' chosen refusal)
-answers_are_determined reporters words input s t f g x y (called places status front text chosen call) (called places' status' front' text' chosen' call') =
-    let same : places ≡ places' = chosen_one words (names_of reporters) places places' chosen chosen' in
-    gives_one reporters places input status status' front front' text text' call
-    (subst (λ (l : List ℕ). Gives reporters l input status' front' text') (sym same) call')
+answers_are_determined reporters input heard s t f g x y (call_refused fault) (call_refused fault') = (refl, λ same. refl)
+answers_are_determined reporters input heard s t f g x y (call_grow places status front text grows) (call_grow places' status' front' text' grows') =
+    grows_one reporters places (judged_input input) status status' front front' text text' grows grows'
+answers_are_determined reporters input heard s t f g x y (call_census shape status text counts) (call_census shape' status' text' counts') =
+    let one = counts_one shape status status' text text' counts counts' in (one.0, λ same. one.1)
+answers_are_determined reporters input heard s t f g x y (call_match r status text compares) (call_match r' status' text' compares') =
+    let one = compares_one r (judged_input input) status status' text text' compares compares' in (one.0, λ same. one.1)

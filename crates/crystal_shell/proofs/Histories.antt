@@ -17,7 +17,7 @@ use Rattle.session_desk.specs.declared.reply.Reply.{Reply}
 use Rattle.session_desk.specs.Replies.{replies}
 use Rattle.session_desk.specs.Sessions.{IsAsked, Ran, AllRan, Continues}
 use Rattle.session_desk.proofs.Apart.{calls_others}
-use Rattle.crystal_shell.specs.Answers.{IsStarted, IsHistory}
+use Rattle.crystal_shell.specs.Histories.{IsHistory, IsStarted}
 
 -- the starts are roots
 pub starts_are_roots : (j : Job) → IsJob j → All (Contains j.world.roots) j.starts
@@ -90,12 +90,17 @@ bond_none old new n fresh caller same bond =
 pub adds_asked : (w : WorldType) (starts : List ℕ) (script : List Command) → script ≡ map Add starts → All (Contains w.roots) starts → All (IsAsked w) script
 adds_asked w starts script is rooted = rw is (All-map (IsAsked w) Add starts rooted)
 
-pub history : (j : Job) (front : List Event) (told : List (List Reply)) → IsStarted j.world j.starts front
-    → ((n : ℕ) → length j.scripts < n → calls front n ≡ []) → AllRan j.world front j.scripts told → IsHistory j front told
-history j front told first alone ran = record {
+pub history : (w : WorldType) (starts : List ℕ) (scripts : List (List Command)) (front : List Event) (told : List (List Reply)) → IsStarted w starts front
+    → ((n : ℕ) → length scripts < n → calls front n ≡ []) → AllRan w front scripts told → IsHistory w starts scripts front told
+history w starts scripts front told first alone ran = record {
   legal = ran.legal;
   started = first;
   count = ran.count;
   replied = ran.replied;
   alone = alone;
 }
+
+-- the sessions of a world, on a history by another name
+pub all_ran : (v w : WorldType) (old new : List Event) (scripts : List (List Command)) (told : List (List Reply)) → v ≡ w → old ≡ new → AllRan v old scripts told → AllRan w new scripts told
+all_ran v w old new scripts told world front ran =
+    subst (λ (h : List Event). AllRan w h scripts told) front (subst (λ (u : WorldType). AllRan u old scripts told) world ran)

@@ -1,8 +1,10 @@
-pub mod Given
-pub mod Determined
-pub mod Inputs
-pub mod Histories
-pub mod Parts
 pub mod Results
 pub mod Words
+pub mod Texts
+pub mod Parts
+pub mod Histories
+pub mod Cases
+pub mod Ends
+pub mod Verdicts
+pub mod Determined
 pub mod Unspent

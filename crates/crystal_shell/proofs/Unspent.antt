@@ -1,21 +1,21 @@
 -- Under the status 0 no event of the history is a `Spent`.
-use Rattle.std.proofs.Common.{arith, ◌≡◌, ℕ, List, Contains}
+use Rattle.std.proofs.Common.{◌≡◌, ℕ, List, [], Contains, get_or, arith}
 use Rattle.graph_history.specs.declared.event.Act.TheVariants.{Spent}
 use Rattle.graph_history.specs.declared.event.Event.{Event}
 use Rattle.graph_history.proofs.Components.{spent_outnumbers}
 use Rattle.crystal_shell.specs.Statistics.{Reporter}
-use Rattle.crystal_shell.specs.Answers.{Gives, too_long, refused, whole, full, words_refused, called}
+use Rattle.crystal_shell.specs.Inputs.{judged_input}
+use Rattle.crystal_shell.specs.Answers.{Grows, call_census, call_grow, call_match, grow_whole}
 use Rattle.crystal_shell.specs.Laws.{AnsweredIsUnspent}
+use Rattle.crystal_shell.specs.declared.inputs.Input.{Input}
+use Rattle.crystal_shell.specs.declared.outcomes.Status.TheVariants.{Done}
 
-gives_unspent : (reporters : List Reporter) (places input : List ℕ) (s : ℕ) (f : List Event) (y : List ℕ) (n x : ℕ) →
-    Gives reporters places input s f y → s ≡ 0 → Contains f (record { caller = n; act = Spent x }) → ⊥
-gives_unspent reporters places input s f y n x (too_long long) zero there = omega (arith, zero)
-gives_unspent reporters places input s f y n x (refused r short judged) zero there = omega (arith, zero)
-gives_unspent reporters places input s f y n x (whole job list front told answers short judged history listed fits asked) zero there =
-    fits (spent_outnumbers job.world front n x history.legal there)
-gives_unspent reporters places input s f y n x (full job front told short judged history more) zero there = omega (arith, zero)
+grows_unspent : (reporters : List Reporter) (places : List ℕ) (input : Input) (f : List Event) (y : List ℕ) (n x : ℕ) →
+    Grows reporters places input Done f y → Contains f (record { caller = n; act = Spent x }) → ⊥
+grows_unspent reporters places input f y n x (grow_whole job g front told answers history graph asked) there =
+    graph.fits (spent_outnumbers job.world front n x history.legal there)
 
 pub answered_is_unspent : AnsweredIsUnspent
-answered_is_unspent reporters words input status front text n x (words_refused text' refusal) zero there = omega (arith, zero)
-answered_is_unspent reporters words input status front text n x (called places status' front' text' chosen call) zero there =
-    gives_unspent reporters places input status' front' text' n x call zero there
+answered_is_unspent reporters input heard front text n x (call_grow places status front' text' grows) there = grows_unspent reporters places (judged_input input) front' text' n x grows there
+answered_is_unspent reporters input heard front text n x (call_census shape status text' counts) (k, below, is) = omega (arith, below)
+answered_is_unspent reporters input heard front text n x (call_match r status text' compares) (k, below, is) = omega (arith, below)

@@ -1,53 +1,43 @@
 -- What the command words and the input call for.
-use Rattle.std.specs.Prelude.{ℕ, ◌+◌, ◌<◌, ◌≤◌, ◌≡◌, List, [], ◌++◌, length, map, slice_index, slice_index_or, nat_eq, Option, Some, IfSome, Ok, Err}
-use Rattle.std.specs.Io.KnownBytes.{IsAtEnd}
-use Rattle.std.specs.List.{IsDistinct}
-use Rattle.crystal_streams.specs.Reads.{TakesExactly}
-use Rattle.tensor_words.specs.Reach.{IsComponentList, Outnumber}
-use Rattle.tensor_words.specs.Worlds.{WorldType}
-use Rattle.canonical_graph.specs.Graphs.{FinishedType, finished_graph}
+use Rattle.std.specs.Prelude.{ℕ, ◌<◌, ◌≤◌, ◌≡◌, List, [], ◌++◌, length, slice_index}
+use Rattle.crystal_cartan.specs.Types.{CartanType}
+use Rattle.tensor_words.specs.Reach.{Outnumber}
+use Rattle.tensor_words.specs.Spaces.{SpaceType}
+use Rattle.tableau_reading.specs.Shapes.{ShapeType, shape_space}
+use Rattle.canonical_graph.specs.Graphs.{FinishedType}
 use Rattle.graph_history.specs.declared.event.Event.{Event}
-use Rattle.graph_history.specs.History.{IsLegal, calls}
-use Rattle.command_words.specs.Judge.{judge_words}
-use Rattle.command_words.specs.Fault.{fault_number}
-use Rattle.command_words.specs.declared.fault.WordsFault.{WordsFault}
-use Rattle.command_words.specs.declared.settings.Settings.TheVariants.{Grow, Sample}
-use Rattle.job_text.specs.Faults.{Refusal, why_number}
-use Rattle.job_text.specs.declared.commands.Command.TheVariants.{Add}
 use Rattle.job_text.specs.declared.jobs.Job.{Job}
-use Rattle.job_text.specs.Judge.{judge}
 use Rattle.session_desk.specs.declared.reply.Reply.{Reply}
-use Rattle.session_desk.specs.Replies.{replies}
 use Rattle.crystal_characters.specs.Items.{items_of}
 use Rattle.ask_answers.specs.Answers.{AreAnswers}
-use Rattle.answer_text.specs.Texts.{ended, head_line, sessions_text, graph_part, full_line, end_line, words_refusal, job_refusal}
-use Rattle.crystal_shell.specs.Statistics.{Reporter, names_of, statistics_text}
-use Rattle.crystal_shell.specs.declared.answer.Heard.{Heard}
-use Rattle.crystal_shell.specs.declared.answer.Heard.TheVariants.{Chosen, Refused}
+use Rattle.tableau_census.specs.Outcomes.{IsListed, IsTooLarge}
+use Rattle.crystal_match.specs.Matching.{AreSame, PairsOutnumber}
+use Rattle.crystal_match.specs.Relabelling.{RelabelType, kept, starred}
+use Rattle.crystal_match.specs.Telling.{PointedType, IsFirstTelling, pointed}
+use Rattle.command_words.specs.declared.settings.Relabelling.{Relabelling}
+use Rattle.command_words.specs.declared.settings.Relabelling.TheVariants as relabelling
+use Rattle.crystal_cartan.specs.declared.types.Arrow.{Arrow}
+use Rattle.crystal_streams.specs.Lines.{ended}
+use Rattle.answer_text.specs.Texts.{head_line, sessions_text, graph_part, full_line, end_line, words_refusal, job_refusal}
+use Rattle.answer_text.specs.Modes.{census_line, tableaux_text, same_line, differs_line}
+use Rattle.crystal_shell.specs.Statistics.{Reporter, statistics_text}
+use Rattle.crystal_shell.specs.Inputs.{judged_input}
+use Rattle.crystal_shell.specs.Histories.{IsHistory, IsGraph}
+use Rattle.crystal_shell.specs.declared.hearing.Heard.{Heard}
+use Rattle.crystal_shell.specs.declared.hearing.Heard.TheVariants as heard
+use Rattle.crystal_shell.specs.declared.inputs.Input.{Input}
+use Rattle.crystal_shell.specs.declared.inputs.Input.TheVariants.{Refused, Taken}
+use Rattle.crystal_shell.specs.declared.outcomes.Status.{Status}
+use Rattle.crystal_shell.specs.declared.outcomes.Status.TheVariants.{Done, WordsRefused, JobRefused, Full}
 
--- the most bytes of a job
-abbrev pub job_limit : ℕ
-job_limit = 1048576
+-- the status of an answer that is written whole: 0 done, 1 words refused, 2 job refused, 3 full
+abbrev pub status_number : Status → ℕ
+status_number Done = 0
+status_number WordsRefused = 1
+status_number JobRefused = 2
+status_number Full = 3
 
--- the history begins with the starts in order, put in under the number 0 as by `add` commands, and this number has no
--- other events
-pub record IsStarted (w : WorldType) (starts : List ℕ) (front : List Event) : Type 0 where
-  pub first : List Event
-  pub rest : List Event
-  pub is : front ≡ first ++ rest
-  pub own : calls front 0 ≡ first
-  pub told : List Reply
-  pub replied : replies w.space (map Add starts) first ≡ Some told
-
--- the history of a job: it is legal, it begins with the starts, session s, counted from 1, has the replies of its script
--- under the number s, and there is no further number
-pub record IsHistory (job : Job) (front : List Event) (told : List (List Reply)) : Type 0 where
-  pub legal : IsLegal job.world front
-  pub started : IsStarted job.world job.starts front
-  pub count : length told ≡ length job.scripts
-  pub replied : (k : ℕ) → k < length job.scripts →
-      replies job.world.space (slice_index_or job.scripts k []) (calls front (k + 1)) ≡ Some (slice_index_or told k [])
-  pub alone : (n : ℕ) → length job.scripts < n → calls front n ≡ []
+-- ---- grow
 
 -- the text of a job with these replies whose graph is finished, from the parts of the statistics and the answers to the
 -- asks
@@ -56,63 +46,71 @@ whole_text f told parts answers =
     ended (head_line f.space.cartan) ++ sessions_text f.space told ++ graph_part f ++ parts ++ answers ++ ended end_line
 
 -- the same where more words are reached than there are cells
-abbrev pub full_text : WorldType → List (List Reply) → List ℕ
-full_text w told = ended (head_line w.space.cartan) ++ sessions_text w.space told ++ ended full_line ++ ended end_line
+abbrev pub full_text : SpaceType → List (List Reply) → List ℕ
+full_text s told = ended (head_line s.cartan) ++ sessions_text s told ++ ended full_line ++ ended end_line
 
--- the finished graph of a job, from its component list
-abbrev pub graph_of : Job → List ℕ → FinishedType
-graph_of job list = finished_graph job.world.space list
+-- the status, the history and the text that an input calls for, where the statistics at these places are chosen
+pub data Grows (reporters : List Reporter) (places : List ℕ) : Input → Status → List Event → List ℕ → Type 0 where
+  grow_refused : (line fault : ℕ) → Grows reporters places (Refused line fault) JobRefused [] (job_refusal line fault)
+  grow_whole : (job : Job) (f : FinishedType) (front : List Event) (told : List (List Reply)) (answers : List ℕ)
+      → IsHistory job.world job.starts job.scripts front told → IsGraph job.world f
+      → AreAnswers f (slice_index job.starts 0) job.asks answers
+      → Grows reporters places (Taken job) Done front (whole_text f told (statistics_text reporters places (items_of f)) answers)
+  grow_full : (job : Job) (front : List Event) (told : List (List Reply)) → IsHistory job.world job.starts job.scripts front told
+      → Outnumber job.world → Grows reporters places (Taken job) Full front (full_text job.world.space told)
 
--- the status, the history and the text that an input calls for under `grow`, where the statistics at these places are
--- chosen
-pub data Gives (reporters : List Reporter) (places : List ℕ) (input : List ℕ) : ℕ → List Event → List ℕ → Type 0 where
-  too_long : job_limit < length input → Gives reporters places input 2 [] (job_refusal 0 14)
-  refused : (r : Refusal) → length input ≤ job_limit → judge input ≡ Err r
-      → Gives reporters places input 2 [] (job_refusal r.line (why_number r.why))
-  whole : (job : Job) (list : List ℕ) (front : List Event) (told : List (List Reply)) (answers : List ℕ) → length input ≤ job_limit
-      → judge input ≡ Ok job → IsHistory job front told
-      → IsComponentList job.world list → (Outnumber job.world → ⊥)
-      → AreAnswers (graph_of job list) (slice_index job.starts 0) job.asks answers
-      → Gives reporters places input 0 front
-      (whole_text (graph_of job list) told (statistics_text reporters places (items_of (graph_of job list))) answers)
-  full : (job : Job) (front : List Event) (told : List (List Reply)) → length input ≤ job_limit
-      → judge input ≡ Ok job → IsHistory job front told
-      → Outnumber job.world → Gives reporters places input 3 front (full_text job.world told)
+-- ---- census
 
--- the text that refused command words call for: their first fault, or 8 for a mode that is not served yet
-pub data RefusesWords (words names : List (List ℕ)) : List ℕ → Type 0 where
-  faulty : (fault : WordsFault) (k : ℕ) → judge_words words names ≡ Err fault → fault_number fault ≡ Some k
-      → RefusesWords words names (words_refusal k)
-  sample : (growers number : ℕ) → judge_words words names ≡ Ok (Sample growers number)
-      → RefusesWords words names (words_refusal 8)
+-- the most tableaux that are listed
+abbrev pub census_limit : ℕ
+census_limit = 65536
 
--- the command words ask for growth, and choose the statistics at these places
-pub record Chooses (words names : List (List ℕ)) (places : List ℕ) : Type 0 where
-  pub growers : ℕ
-  pub judged : judge_words words names ≡ Ok (Grow growers places)
+-- the text of a census by the codes of the tableaux, and where there are too many
+abbrev pub census_text : ShapeType → List ℕ → List ℕ
+census_text shape list = ended (census_line shape.cartan) ++ tableaux_text (shape_space shape) list ++ ended end_line
 
--- the command words are accepted
-abbrev pub AcceptsWords : List (List ℕ) → List (List ℕ) → Type 0
-AcceptsWords words names = (places : List ℕ) × Chooses words names places
+abbrev pub full_census_text : CartanType → List ℕ
+full_census_text t = ended (census_line t) ++ ended full_line ++ ended end_line
 
--- what was heard of the command words
-abbrev pub Hears : List (List ℕ) → List (List ℕ) → Heard → Type 0
-Hears words names (Chosen places) = Chooses words names places
-Hears words names (Refused fault) = RefusesWords words names (words_refusal fault)
+-- the status and the text that a shape calls for
+pub data Counts (shape : ShapeType) : Status → List ℕ → Type 0 where
+  count_listed : (list : List ℕ) → IsListed shape census_limit list → Counts shape Done (census_text shape list)
+  count_full : IsTooLarge shape census_limit → Counts shape Full (full_census_text shape.cartan)
 
--- the places are different ones of so many statistics
-abbrev pub FitsPlaces : ℕ → Heard → Type 0
-FitsPlaces count (Chosen places) = IsDistinct nat_eq places × ((k : ℕ) → k < length places → slice_index places k < count)
-FitsPlaces count (Refused fault) = Unit {0}
+-- ---- match
 
--- the source is read to its end, or to one byte more than a job may have
-abbrev pub ReadsJob : Option (List ℕ) → Option (List ℕ) → Type 0
-ReadsJob before after =
-    IfSome before (λ input. (length input ≤ job_limit → IsAtEnd after)
-    × (job_limit < length input → TakesExactly (job_limit + 1) before after))
+abbrev pub relabel_of : CartanType → Relabelling → RelabelType
+relabel_of t relabelling.Same = kept t
+relabel_of t relabelling.Star = starred t
 
--- the status, the history and the text that command words and an input call for
-pub data Names (reporters : List Reporter) (words : List (List ℕ)) (input : List ℕ) : ℕ → List Event → List ℕ → Type 0 where
-  words_refused : (text : List ℕ) → RefusesWords words (names_of reporters) text → Names reporters words input 1 [] text
-  called : (places : List ℕ) (status : ℕ) (front : List Event) (text : List ℕ) → Chooses words (names_of reporters) places
-      → Gives reporters places input status front text → Names reporters words input status front text
+-- the first start of a job against the second
+abbrev pub marked : Relabelling → Job → PointedType
+marked r job = pointed job.world.space (slice_index job.starts 0) (slice_index job.starts 1) (relabel_of job.world.space.cartan r)
+
+-- the text of a comparison, by its middle line
+abbrev pub match_text : CartanType → List ℕ → List ℕ
+match_text t line = ended (head_line t) ++ ended line ++ ended end_line
+
+-- the status and the text that an input calls for; a job with fewer than two starts is refused with the fault 16, and the
+-- job's cells are the most pairs
+pub data Compares (r : Relabelling) : Input → Status → List ℕ → Type 0 where
+  match_refused : (line fault : ℕ) → Compares r (Refused line fault) JobRefused (job_refusal line fault)
+  match_few : (job : Job) → length job.starts < 2 → Compares r (Taken job) JobRefused (job_refusal 0 16)
+  match_same : (job : Job) (pairs : List (ℕ × ℕ)) → 2 ≤ length job.starts → AreSame (marked r job) pairs
+      → (PairsOutnumber (marked r job) job.world.cells → ⊥) → Compares r (Taken job) Done (match_text job.world.space.cartan (same_line (length pairs)))
+  match_differ : (job : Job) (walk : List Arrow) → 2 ≤ length job.starts → IsFirstTelling (marked r job) walk
+      → (PairsOutnumber (marked r job) job.world.cells → ⊥) → Compares r (Taken job) Done (match_text job.world.space.cartan (differs_line walk))
+  match_full : (job : Job) → 2 ≤ length job.starts → PairsOutnumber (marked r job) job.world.cells
+      → Compares r (Taken job) Full (match_text job.world.space.cartan full_line)
+
+-- ---- all of them
+
+-- the status, the history and the text that heard words and an input call for
+pub data Calls (reporters : List Reporter) (input : List ℕ) : Heard → Status → List Event → List ℕ → Type 0 where
+  call_refused : (fault : ℕ) → Calls reporters input (heard.Refused fault) WordsRefused [] (words_refusal fault)
+  call_grow : (places : List ℕ) (status : Status) (front : List Event) (text : List ℕ)
+      → Grows reporters places (judged_input input) status front text → Calls reporters input (heard.Grow places) status front text
+  call_census : (shape : ShapeType) (status : Status) (text : List ℕ) → Counts shape status text
+      → Calls reporters input (heard.Census shape) status [] text
+  call_match : (r : Relabelling) (status : Status) (text : List ℕ) → Compares r (judged_input input) status text
+      → Calls reporters input (heard.Match r) status [] text

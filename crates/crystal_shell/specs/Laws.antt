@@ -3,17 +3,20 @@ use Rattle.std.specs.Prelude.{ℕ, ◌≡◌, List, Contains}
 use Rattle.graph_history.specs.declared.event.Act.TheVariants.{Spent}
 use Rattle.graph_history.specs.declared.event.Event.{Event}
 use Rattle.crystal_shell.specs.Statistics.{Reporter}
-use Rattle.crystal_shell.specs.Answers.{Names}
+use Rattle.crystal_shell.specs.Answers.{Calls}
+use Rattle.crystal_shell.specs.declared.hearing.Heard.{Heard}
+use Rattle.crystal_shell.specs.declared.outcomes.Status.{Status}
+use Rattle.crystal_shell.specs.declared.outcomes.Status.TheVariants.{Done}
 
--- the status is determined by the command words and the input, and the text by these and the history
+-- the status is determined by what was heard of the command words and by the input, and the text by these and the history
 abbrev pub AnswersAreDetermined : Type 0
 AnswersAreDetermined =
-    (reporters : List Reporter) (words : List (List ℕ)) (input : List ℕ) (status status' : ℕ) (front front' : List Event) (text text' : List ℕ) →
-    Names reporters words input status front text → Names reporters words input status' front' text' →
+    (reporters : List Reporter) (input : List ℕ) (heard : Heard) (status status' : Status) (front front' : List Event) (text text' : List ℕ) →
+    Calls reporters input heard status front text → Calls reporters input heard status' front' text' →
     (status ≡ status') × (front ≡ front' → text ≡ text')
 
 -- under the status 0 every word that was asked for found a cell: no event of the history is a `Spent`
 abbrev pub AnsweredIsUnspent : Type 0
 AnsweredIsUnspent =
-    (reporters : List Reporter) (words : List (List ℕ)) (input : List ℕ) (status : ℕ) (front : List Event) (text : List ℕ) (n x : ℕ) →
-    Names reporters words input status front text → status ≡ 0 → Contains front (record { caller = n; act = Spent x }) → ⊥
+    (reporters : List Reporter) (input : List ℕ) (heard : Heard) (front : List Event) (text : List ℕ) (n x : ℕ) →
+    Calls reporters input heard Done front text → Contains front (record { caller = n; act = Spent x }) → ⊥

@@ -1,4 +1,8 @@
 pub mod Statistics
+pub mod Heard
+pub mod Inputs
+pub mod Histories
 pub mod Answers
-pub mod Findings
+pub mod Runs
+pub mod Stops
 pub mod Laws

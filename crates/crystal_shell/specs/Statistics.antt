@@ -1,5 +1,5 @@
 -- Statistics, as the answer sees them.
-use Rattle.std.specs.Prelude.{ℕ, List, [], map, slice_get, Option, Some, None}
+use Rattle.std.specs.Prelude.{ℕ, ◌<◌, ◌≤◌, ◌≡◌, List, [], length, map, slice_get, slice_index_or, Option, Some, None}
 use Rattle.std.specs.List.{flat_map}
 use Rattle.answer_text.specs.Texts.{statistic_text}
 use Rattle.crystal_characters.specs.declared.items.Item.{Item}
@@ -20,3 +20,8 @@ part_of (Some reporter) items = statistic_text reporter.name (reporter.reports i
 -- the parts of the statistics that stand at these places, one after another
 abbrev pub statistics_text : List Reporter → List ℕ → List Item → List ℕ
 statistics_text reporters places items = flat_map (λ place. part_of (slice_get reporters place) items) places
+
+-- the statistics of a fresh list were fed nothing, and have names of at most 64 bytes
+pub record AreFresh {S : Type 0} (name : S → List ℕ) (fed : S → List Item) (stats : List S) : Type 0 where
+  pub unfed : (k : ℕ) (d : S) → k < length stats → fed (slice_index_or stats k d) ≡ []
+  pub short : (k : ℕ) (d : S) → k < length stats → length (name (slice_index_or stats k d)) ≤ 64

@@ -1,11 +1,15 @@
 //! The workbench for crystal graphs as a program: command words and a job in, the answer out.
 #![tactic(auto)]
 
-mod answer;
-mod answers;
-mod findings;
+mod counting;
+mod growing;
+mod hearing;
+mod inputs;
 mod laws;
-mod sessions;
+mod matching;
+mod outcomes;
+mod refusals;
+mod serving;
 mod statistics;
 #[cfg(test)]
 mod tests;

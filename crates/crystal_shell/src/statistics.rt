@@ -1,10 +1,10 @@
 //! Statistics: chosen by their names, fed with the vertices of a finished graph, and reported.
-ghost use Rattle.std.specs.Prelude.{◌≡◌, ◌<◌, ◌≤◌, ℕ, List, [], ◌++◌, IfOk, OnOk, map, length, slice_index, slice_index_or, nat_eq, string_bytes};
-ghost use Rattle.std.specs.List.{IsDistinct};
+ghost use Rattle.std.specs.Prelude.{◌≡◌, ◌≤◌, List, ◌++◌, IfOk, OnOk, map, length, string_bytes};
 ghost use Rattle.command_words.specs.Judge.{judge_words, IsAnswer, FitsNames};
 ghost use Rattle.answer_text.specs.Texts.{statistic_text};
 ghost use Rattle.crystal_characters.specs.Items.{items_of};
-ghost use Rattle.crystal_shell.specs.Statistics.{Reporter, names_of, statistics_text};
+ghost use Rattle.crystal_shell.specs.Statistics.{AreFresh, Reporter, names_of, statistics_text};
+ghost use Rattle.crystal_shell.specs.Heard.{AreChosen};
 
 use answer_text::push_statistic;
 use canonical_graph::Finished;
@@ -57,10 +57,8 @@ pub(crate) fn push_statistics(
     places: &Places,
     finished: &Finished,
 ) -> Result<(), NoMemory>
-    requires distinct { IsDistinct nat_eq places.now }
-    requires below { (k : ℕ) → k < length places.now → slice_index places.now k < length stats.old.items }
-    requires unfed { (k : ℕ) (d : _) → k < length stats.old.items → fed (slice_index_or stats.old.items k d) ≡ [] }
-    requires short { (k : ℕ) (d : _) → k < length stats.old.items → length (named (slice_index_or stats.old.items k d)) ≤ 64 }
+    requires chosen { AreChosen (length stats.old.items) places.now }
+    requires fresh { AreFresh (λ b. named b) (λ b. fed b) stats.old.items }
     ensures { let reporters : List Reporter = map (λ b. record { name = named b; reports = reported b }) stats.old.items in
         OnOk result (out.new.items ≡ out.old.items ++ statistics_text reporters places.now (items_of finished.now)) }
 {

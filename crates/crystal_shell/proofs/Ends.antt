@@ -1,0 +1,180 @@
+-- How a run comes to its end.
+use Rattle.std.proofs.Common.{◌≡◌, ◌+◌, ◌≢◌, ◌≤◌, ◌⊎◌, ℕ, Bool, true, false, List, [], Option, Some, None, Result, Ok, Err, IsErrOf, inl, inr, refl, sym, ap, subst, ◌∙◌, true≢false, arith}
+use Rattle.std.specs.Io.KnownBytes.{Appends, Keeps}
+use Rattle.crystal_streams.specs.Faults.{Rose}
+use Rattle.crystal_streams.specs.Reads.{TakesAtMost}
+use Rattle.graph_history.specs.declared.event.Event.{Event}
+use Rattle.command_words.specs.declared.settings.Relabelling.{Relabelling}
+use Rattle.tableau_reading.specs.Shapes.{ShapeType}
+use Rattle.answer_text.specs.Texts.{words_refusal}
+use Rattle.crystal_shell.specs.Statistics.{Reporter, names_of}
+use Rattle.crystal_shell.specs.Heard.{asks_for_job, heard_in}
+use Rattle.crystal_shell.specs.Inputs.{IsInput, ReadsJob, job_limit, judged_input}
+use Rattle.crystal_shell.specs.Answers.{Calls, Compares, Counts, Grows, call_census, call_grow, call_match, call_refused, status_number}
+use Rattle.crystal_shell.specs.Runs.{Called, HasRead, IsRun, IsWritten}
+use Rattle.crystal_shell.specs.Stops.{stop_number}
+use Rattle.crystal_shell.specs.declared.hearing.Heard.{Heard}
+use Rattle.crystal_shell.specs.declared.hearing.Heard.TheVariants.{Census, Grow, Match, Refused}
+use Rattle.crystal_shell.specs.declared.inputs.Input.{Input}
+use Rattle.crystal_shell.specs.declared.outcomes.Outcome.{Outcome}
+use Rattle.crystal_shell.specs.declared.outcomes.Status.{Status}
+use Rattle.crystal_shell.specs.declared.outcomes.Status.TheVariants.{Done, Full, JobRefused, WordsRefused}
+use Rattle.crystal_shell.specs.declared.outcomes.Stop.{Stop}
+use Rattle.crystal_shell.specs.declared.outcomes.Stop.TheVariants.{NoMemory, ReadFault}
+
+-- ---- what was called for
+
+some_input : (left : Option (List ℕ)) → (input : List ℕ) × IsInput left input
+some_input None = ([], tt)
+some_input (Some left) = (left, refl)
+
+module _ (reporters : List Reporter) (words : List (List ℕ)) (left : Option (List ℕ)) (heard : Heard) (is : heard ≡ heard_in words (names_of reporters)) where
+  called : (s : Status) (f : List Event) (x input : List ℕ) → IsInput left input → Calls reporters input heard s f x → Called reporters words left s f x
+  called s f x input had calls = record { input = input; had = had; calls = subst (λ (h : Heard). Calls reporters input h s f x) is calls }
+
+  pub called_refused : (fault : ℕ) (s : Status) (f : List Event) (x : List ℕ) → heard ≡ Refused fault → s ≡ WordsRefused → f ≡ [] → x ≡ words_refusal fault → Called reporters words left s f x
+  called_refused fault s f x this status front text =
+      let some = some_input left in
+      let base : Calls reporters some.0 (Refused fault) WordsRefused [] (words_refusal fault) = call_refused fault in
+      let calls : Calls reporters some.0 heard s f x = rw (this, status, front, text) base in
+      called s f x some.0 some.1 calls
+
+  pub called_grown : (places : List ℕ) (input : Input) (s : Status) (f : List Event) (x : List ℕ) → heard ≡ Grow places
+      → ((xs : List ℕ) × IsInput left xs × (input ≡ judged_input xs)) → Grows reporters places input s f x → Called reporters words left s f x
+  called_grown places input s f x this (xs, had, judged) grows =
+      let base : Calls reporters xs (Grow places) s f x = call_grow places s f x (subst (λ (i : Input). Grows reporters places i s f x) judged grows) in
+      called s f x xs had (subst (λ (h : Heard). Calls reporters xs h s f x) (sym this) base)
+
+  pub called_counted : (shape : ShapeType) (s : Status) (f : List Event) (x : List ℕ) → heard ≡ Census shape → f ≡ [] → Counts shape s x → Called reporters words left s f x
+  called_counted shape s f x this front counts =
+      let some = some_input left in
+      let base : Calls reporters some.0 (Census shape) s [] x = call_census shape s x counts in
+      let calls : Calls reporters some.0 heard s f x = rw (this, front) base in
+      called s f x some.0 some.1 calls
+
+  pub called_compared : (r : Relabelling) (input : Input) (s : Status) (f : List Event) (x : List ℕ) → heard ≡ Match r → f ≡ []
+      → ((xs : List ℕ) × IsInput left xs × (input ≡ judged_input xs)) → Compares r input s x → Called reporters words left s f x
+  called_compared r input s f x this front (xs, had, judged) compares =
+      let base : Calls reporters xs (Match r) s [] x = call_match r s x (subst (λ (i : Input). Compares r i s x) judged compares) in
+      let calls : Calls reporters xs heard s f x = rw (this, front) base in
+      called s f x xs had calls
+
+-- ---- what was read
+
+none_taken : (n : ℕ) (left : Option (List ℕ)) → TakesAtMost n left left
+none_taken n None = record { taken = []; many = omega arith; gone = tt }
+none_taken n (Some left) = record { taken = []; many = omega arith; gone = refl }
+
+module _ {S : Type 0} (left : S → Option (List ℕ)) (faults : S → ℕ) (reporters : List Reporter) (words : List (List ℕ)) (heard : Heard) (is : heard ≡ heard_in words (names_of reporters))
+    (before after : S) (done failed : Type 0) where
+  -- the words ask for no job, and the source is as it was
+  pub read_unasked : asks_for_job heard ≡ false → after ≡ before → (failed → ⊥) → HasRead left faults reporters words before after done failed
+  read_unasked unasked same never =
+      let none : asks_for_job (heard_in words (names_of reporters)) ≡ false = ap asks_for_job (sym is) ∙ unasked in
+      record {
+        alone = λ _. same;
+        whole = λ asked _. absurd (true≢false (sym asked ∙ none));
+        most = rw same (none_taken (job_limit + 1) (left before));
+        fault = λ f. absurd (never f);
+        later = rw same (omega arith);
+      }
+
+  pub read_asked : asks_for_job heard ≡ true → (done → ReadsJob (left before) (left after)) → TakesAtMost (job_limit + 1) (left before) (left after)
+      → (failed → Rose (faults before) (faults after)) → faults before ≤ faults after → HasRead left faults reporters words before after done failed
+  read_asked asked whole most fault later =
+      let some : asks_for_job (heard_in words (names_of reporters)) ≡ true = ap asks_for_job (sym is) ∙ asked in
+      record {
+        alone = λ unasked. absurd (true≢false (sym some ∙ unasked));
+        whole = λ _ d. whole d;
+        most = most;
+        fault = λ f. (some, fault f);
+        later = later;
+      }
+
+-- nothing was heard, and the source is as it was
+pub read_unheard : {S : Type 0} (left : S → Option (List ℕ)) (faults : S → ℕ) (reporters : List Reporter) (words : List (List ℕ)) (before after : S) (done failed : Type 0)
+    → after ≡ before → (done → ⊥) → (failed → ⊥) → HasRead left faults reporters words before after done failed
+read_unheard left faults reporters words before after done failed same undone never = record {
+  alone = λ _. same;
+  whole = λ _ d. absurd (undone d);
+  most = rw same (none_taken (job_limit + 1) (left before));
+  fault = λ f. absurd (never f);
+  later = rw same (omega arith);
+}
+
+-- ---- the end
+
+low : (s : Status) → status_number s ≤ 3
+low Done = omega arith
+low WordsRefused = omega arith
+low JobRefused = omega arith
+low Full = omega arith
+
+kept : (held : Option (List ℕ)) → Keeps held held
+kept None = tt
+kept (Some xs) = refl
+
+module _ {S K : Type 0} (left : S → Option (List ℕ)) (read_faults : S → ℕ) (held : K → Option (List ℕ)) (write_faults : K → ℕ)
+    (reporters : List Reporter) (words : List (List ℕ)) (source source' : S) (sink sink' : K) (outcome : Outcome) where
+  pub run_answered : (status : Status) (front : List Event) (text : List ℕ) (done failed : Type 0) → Called reporters words (left source) status front text
+      → HasRead left read_faults reporters words source source' done failed → done
+      → outcome.front ≡ front → IsWritten (held sink) (held sink') (write_faults sink) (write_faults sink') status text outcome.status → write_faults sink ≤ write_faults sink'
+      → IsRun left read_faults held write_faults reporters words source source' sink sink' outcome
+  run_answered status front text done failed called read is_done same written later =
+      let own : Called reporters words (left source) status outcome.front text = subst (λ (f : List Event). Called reporters words (left source) status f text) (sym same) called in
+      let range = low status in
+      record {
+        told = λ three. elim written [
+          | inl (is, all) ↦ (status, text, is, own, all)
+          | inr cut ↦ absurd (omega (arith, three, cut.0))
+        ];
+        cut = λ five. elim written [
+          | inl whole ↦ absurd (omega (arith, five, whole.0, range))
+          | inr (is, rose, n, some) ↦ (rose, status, text, n, own, some)
+        ];
+        untold = λ bad. absurd (elim written [
+          | inl whole ↦ elim bad [ inl four ↦ omega (arith, four, whole.0, range) | inr six ↦ omega (arith, six, whole.0, range) ]
+          | inr cut ↦ elim bad [ inl four ↦ omega (arith, four, cut.0) | inr six ↦ omega (arith, six, cut.0) ]
+        ]);
+        statuses = elim written [ inl whole ↦ omega (arith, whole.0, range) | inr cut ↦ omega (arith, cut.0) ];
+        read = record {
+          alone = read.alone;
+          whole = λ asked _. read.whole asked is_done;
+          most = read.most;
+          fault = λ four. absurd (elim written [ inl whole ↦ omega (arith, four, whole.0, range) | inr cut ↦ omega (arith, four, cut.0) ]);
+          later = read.later;
+        };
+        later = later;
+      }
+
+  pub run_stopped : (stop : Stop) (done failed : Type 0) → HasRead left read_faults reporters words source source' done failed → (stop ≡ ReadFault → failed)
+      → outcome.status ≡ stop_number stop → outcome.front ≡ [] → sink' ≡ sink
+      → IsRun left read_faults held write_faults reporters words source source' sink sink' outcome
+  run_stopped ReadFault done failed read fails status front same = record {
+    told = λ three. absurd (omega (arith, three, status));
+    cut = λ five. absurd (omega (arith, five, status));
+    untold = λ _. (rw same (kept (held sink)), front);
+    statuses = omega (arith, status);
+    read = record {
+      alone = read.alone;
+      whole = λ asked nor. absurd (nor.0 status);
+      most = read.most;
+      fault = λ _. read.fault (fails refl);
+      later = read.later;
+    };
+    later = rw same (omega arith);
+  }
+  run_stopped NoMemory done failed read fails status front same = record {
+    told = λ three. absurd (omega (arith, three, status));
+    cut = λ five. absurd (omega (arith, five, status));
+    untold = λ _. (rw same (kept (held sink)), front);
+    statuses = omega (arith, status);
+    read = record {
+      alone = read.alone;
+      whole = λ asked nor. absurd (nor.1 status);
+      most = read.most;
+      fault = λ four. absurd (omega (arith, four, status));
+      later = read.later;
+    };
+    later = rw same (omega arith);
+  }

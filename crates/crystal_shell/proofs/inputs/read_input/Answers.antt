@@ -1,0 +1,5 @@
+use Rattle.crystal_shell.proofs.Texts.{long_input, read_input_is}
+use Rattle.crystal_shell.proofs.inputs.read_input.Goals as goal
+
+pub returns-in-Err-TooLong-clause-judged : goal.returns-in-Err-TooLong-clause-judged
+returns-in-Err-TooLong-clause-judged g c = long_input (g.R.Source.left c.args.source.now) (c.read_all.ensures.long (cc))

@@ -1,0 +1,48 @@
+-- What the command words ask for.
+use Rattle.std.specs.Prelude.{ℕ, ◌<◌, ◌≡◌, Bool, true, false, List, length, slice_index, nat_eq, Option, Some, None, Result, Ok, Err}
+use Rattle.std.specs.List.{IsDistinct}
+use Rattle.crystal_cartan.specs.declared.types.Kind.TheVariants.{A}
+use Rattle.tensor_words.specs.declared.spaces.Order.TheVariants.{Standard}
+use Rattle.command_words.specs.Fault.{fault_number}
+use Rattle.command_words.specs.Judge.{judge_words}
+use Rattle.command_words.specs.declared.fault.WordsFault.{WordsFault}
+use Rattle.command_words.specs.declared.settings.Settings.{Settings}
+use Rattle.command_words.specs.declared.settings.Settings.TheVariants as setting
+use Rattle.crystal_shell.specs.declared.hearing.Heard.{Heard}
+use Rattle.crystal_shell.specs.declared.hearing.Heard.TheVariants.{Refused, Grow, Census, Match}
+
+-- the number of a fault of the words; a judgement is never want of memory, which has none
+abbrev pub number_of : Option ℕ → ℕ
+number_of (Some number) = number
+number_of None = 0
+
+-- what judged words ask for; the mode `sample` is not served yet, and refused with the number 8
+abbrev pub heard_of : Result Settings WordsFault → Heard
+heard_of (Err fault) = Refused (number_of (fault_number fault))
+heard_of (Ok (setting.Grow growers places)) = Grow places
+heard_of (Ok (setting.Sample growers number)) = Refused 8
+heard_of (Ok (setting.Census shape)) = Census shape
+heard_of (Ok (setting.Match relabelling)) = Match relabelling
+
+-- what the command words ask for, where the statistics have these names
+abbrev pub heard_in : List (List ℕ) → List (List ℕ) → Heard
+heard_in words names = heard_of (judge_words words names)
+
+-- whether they ask for a job
+abbrev pub asks_for_job : Heard → Bool
+asks_for_job (Refused fault) = false
+asks_for_job (Grow places) = true
+asks_for_job (Census shape) = false
+asks_for_job (Match relabelling) = true
+
+-- the places are different ones of so many statistics
+pub record AreChosen (count : ℕ) (places : List ℕ) : Type 0 where
+  pub distinct : IsDistinct nat_eq places
+  pub below : (k : ℕ) → k < length places → slice_index places k < count
+
+-- what was heard names statistics that there are, and a shape of type A in the standard tensor order
+abbrev pub Fits : ℕ → Heard → Type 0
+Fits count (Refused fault) = Unit {0}
+Fits count (Grow places) = AreChosen count places
+Fits count (Census shape) = (shape.cartan.kind ≡ A) × (shape.order ≡ Standard)
+Fits count (Match relabelling) = Unit {0}

@@ -1,0 +1,71 @@
+//! What is heard of the command words.
+ghost use Rattle.std.specs.Prelude.{◌≡◌, ℕ, List, IfOk, map, length, string_bytes, Err, Ok};
+ghost use Rattle.command_words.specs.Judge.{judge_words, IsAnswer, FitsNames};
+ghost use Rattle.crystal_shell.specs.Statistics.{Reporter, names_of};
+ghost use Rattle.crystal_shell.specs.Heard.{Fits, heard_in, heard_of};
+
+use crate::statistics::read_settings;
+use command_words::{Places, Relabelling, Settings, WordsFault};
+use crystal_characters::Statistic;
+use crystal_streams::NoMemory;
+use std::alloc::Global;
+use tableau_reading::Shape;
+
+/// The fault of command words whose mode is not served yet.
+const MODE_NOT_SERVED: u8 = 8;
+
+/// What the command words ask for.
+#[derive(Drop)]
+pub(crate) enum Heard {
+    /// They are refused, with the number of the fault.
+    Refused { fault: u8 },
+    /// A job's crystal, and the statistics at these places.
+    Grow { places: Places },
+    /// The tableaux of a shape.
+    Census { shape: Shape },
+    /// A job's first two starts compared.
+    Match { relabelling: Relabelling },
+}
+
+/// What the command words ask for.
+pub(crate) fn hear(
+    alloc: Global,
+    words: &[String],
+    stats: &[Box<dyn Statistic>],
+) -> Result<Heard, NoMemory>
+    ensures heard { let reporters : List Reporter = map (λ b. record { name = named b; reports = reported b }) stats.now in
+        IfOk result (λ heard. heard ≡ heard_in (map string_bytes words.now) (names_of reporters)) }
+    ensures fits { IfOk result (Fits (length stats.now)) }
+{
+    match read_settings(alloc, words, stats) {
+        Ok(settings) => Ok(heard_of(settings)),
+        Err(fault) => heard_fault(fault),
+    }
+}
+
+/// What accepted settings ask for: they are refused where their mode is not served.
+fn heard_of(settings: Settings) -> Heard
+    ensures heard { result ≡ heard_of (Ok settings) }
+    ensures fits { (count : ℕ) → FitsNames count settings → Fits count result }
+{
+    match settings {
+        Settings::Grow { chosen, .. } => Heard::Grow { places: chosen },
+        Settings::Sample { .. } => Heard::Refused {
+            fault: MODE_NOT_SERVED,
+        },
+        Settings::Census { shape } => Heard::Census { shape },
+        Settings::Match { relabelling } => Heard::Match { relabelling },
+    }
+}
+
+/// What a fault of command words says.
+fn heard_fault(fault: WordsFault) -> Result<Heard, NoMemory>
+    ensures heard { IfOk result (λ heard. (words names : List (List ℕ)) →
+        IsAnswer (judge_words words names) (Err fault) → heard ≡ heard_in words names) }
+    ensures fits { IfOk result (λ heard. (count : ℕ) → Fits count heard) }
+{
+    match fault.number() {
+        Some(number) => Ok(Heard::Refused { fault: number }),
+        None => Err(NoMemory),
+    }
+}

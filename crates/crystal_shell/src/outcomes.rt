@@ -1,0 +1,96 @@
+//! What a run comes to.
+ghost use Rattle.std.specs.Prelude.{◌≡◌, []};
+ghost use Rattle.crystal_shell.specs.Answers.{status_number};
+ghost use Rattle.crystal_shell.specs.Stops.{stop_number};
+
+use crystal_streams::NoMemory;
+use graph_history::Front;
+
+/// How a run ended.
+#[derive(Drop)]
+pub struct Outcome {
+    /// 0 done, 1 words refused, 2 job refused, 3 there are more words, tableaux or pairs than may be, 4 a read failed,
+    /// 5 a write failed, 6 want of memory.
+    pub status: u8,
+    /// The history of the starts and the sessions under `grow`; empty in the other modes, where the words or the job are
+    /// refused, and under 4 and 6.
+    pub front: Front,
+}
+
+/// What an answer that is written whole tells.
+#[derive(Clone, Copy, Debug, PartialEq, Eq)]
+pub(crate) enum Status {
+    Done,
+    WordsRefused,
+    JobRefused,
+    Full,
+}
+
+impl Status {
+    /// The number with which the program ends.
+    pub(crate) fn number(&self) -> u8
+        ensures { result ≡ status_number self.now }
+    {
+        match self {
+            Status::Done => 0,
+            Status::WordsRefused => 1,
+            Status::JobRefused => 2,
+            Status::Full => 3,
+        }
+    }
+}
+
+/// An answer, before it is written.
+#[derive(Drop)]
+pub(crate) struct Answer {
+    pub(crate) status: Status,
+    pub(crate) front: Front,
+    pub(crate) text: Vec<u8>,
+}
+
+impl Answer {
+    /// The answer without a history.
+    pub(crate) fn without_history(status: Status, text: Vec<u8>) -> Answer
+        ensures status { result.status ≡ status }
+        ensures front { result.front ≡ [] }
+        ensures text { result.text.items ≡ text.items }
+    {
+        Answer {
+            status,
+            front: Front::empty(),
+            text,
+        }
+    }
+}
+
+/// Why there is no answer.
+#[derive(Clone, Copy, Debug, PartialEq, Eq)]
+pub(crate) enum Stop {
+    /// A read failed.
+    ReadFault,
+    /// There is no memory.
+    NoMemory,
+}
+
+impl Stop {
+    /// The number with which the program ends.
+    pub(crate) fn number(&self) -> u8
+        ensures { result ≡ stop_number self.now }
+    {
+        match self {
+            Stop::ReadFault => 4,
+            Stop::NoMemory => 6,
+        }
+    }
+}
+
+impl From<NoMemory> for Stop {
+    ghost use Rattle.std.specs.Prelude.{◌≡◌};
+    ghost use Rattle.crystal_shell.specs.declared.outcomes.Stop.TheVariants.{NoMemory as NoMemoryStop};
+
+    ghost from_gives = { λ _ stop. stop ≡ NoMemoryStop };
+
+    fn from(_error: NoMemory) -> Stop {
+        Stop::NoMemory
+    }
+}
