@@ -3,7 +3,8 @@
 # growth of the yardstick (bench/yardstick.rs, plain Rust, one thread, a private table): the jobs c4 and d5 of bench/jobs.
 # From each time of the shared table that of a run is taken which makes the table and grows nothing. Prints the least of
 # several runs: processor time, user and system, with the ratio to the yardstick, and wall time, with how much faster
-# four growers are than one.
+# four growers are than one. `bare` is the wall time of the steps alone that write the finished graph into such a table, in
+# plain Rust on one thread, without an operator or a second look-up (bare_steps in the yardstick).
 #
 # Usage: bench/growth.sh [RUNS]    (7 runs where none is given)
 set -u
@@ -35,7 +36,12 @@ def measured(command, text):
     return (processor() - before) * 1e3, (time.perf_counter() - begin) * 1e3, said
 
 
-print(f"{'job':>4} {'':>9} {'yardstick ms':>13} {'one ms':>8} {'four ms':>8} {'ratio':>6} {'faster':>7}")
+def bare(text):
+    """The milliseconds of the bare steps, by their own clock."""
+    return int(subprocess.run(["bench/out/yardstick", "steps"], input=text, capture_output=True, check=True).stdout) / 1e3
+
+
+print(f"{'job':>4} {'':>9} {'yardstick ms':>13} {'bare ms':>8} {'one ms':>8} {'four ms':>8} {'ratio':>6} {'faster':>7}")
 for name in ("c4", "d5"):
     text = Path(f"bench/jobs/{name}.job").read_bytes()
     best = {}
@@ -46,8 +52,9 @@ for name in ("c4", "d5"):
                 sys.exit(f"{name}: {' '.join(command)} says {said}")
             old = best.get(which, (used, wall))
             best[which] = (min(old[0], used), min(old[1], wall))
+    steps = min(bare(text) for _ in range(runs))
     for k, word in ((0, "processor"), (1, "wall")):
         plain = best["yardstick"][k]
         one, four = (best[growers][k] - best["0"][k] for growers in ("1", "4"))
-        print(f"{name:>4} {word:>9} {plain:13.1f} {one:8.1f} {four:8.1f} {one / plain:6.2f} {one / four:7.2f}")
+        print(f"{name:>4} {word:>9} {plain:13.1f} {steps:8.1f} {one:8.1f} {four:8.1f} {one / plain:6.2f} {one / four:7.2f}")
 PY

@@ -4,6 +4,7 @@
 //!     rustc -C opt-level=3 -o yardstick yardstick.rs
 //!     ./yardstick [STATISTIC..] < JOB
 //!     ./yardstick growth < JOB            grows the graph of the starts and prints how that ended, and no more
+//!     ./yardstick steps < JOB             grows it, takes the steps of the shared table for it, and prints their microseconds
 //!
 //! What makes it fast: a component is what lowering reaches from the tops of its roots; a word is its code, and an
 //! operator adds a multiple of a place value; a row of a table has all indices of an element, and one pass over the
@@ -13,6 +14,8 @@
 use std::collections::{HashMap, HashSet};
 use std::io::{self, Read, Write};
 use std::process::exit;
+use std::sync::atomic::{AtomicU64, Ordering::SeqCst};
+use std::time::Instant;
 
 /// The place of an operator that gives zero.
 const NOWHERE: u8 = u8::MAX;
@@ -799,6 +802,50 @@ fn answer(job: &Job, statistics: &[String]) -> (Vec<u8>, i32) {
     (out, if graph.is_some() { 0 } else { 3 })
 }
 
+// ------------------------------------------------------------------------------------- the bare steps of the shared table
+
+/// The steps by which one caller writes a known graph into a table of atomic words like the shared one, and no others: a
+/// debt owed and a cell taken for each code, on its path of cells; each arrow written once; each vertex paid. Nothing is
+/// looked up twice, no operator is computed. The microseconds that they take.
+fn bare_steps(codes: &[u64], nexts: &[u32], cells: usize, rank: usize, starts: usize) -> u128 {
+    let words: Vec<AtomicU64> = (0..1 + cells + cells * 2 * rank).map(|_| AtomicU64::new(0)).collect();
+    let exchange = |word: usize, new: u64| words[word].compare_exchange(0, new, SeqCst, SeqCst).is_ok();
+    let mut homes: Vec<usize> = Vec::with_capacity(codes.len());
+    let take = |code: u64| {
+        words[0].fetch_add(1, SeqCst);
+        let mut cell = ((hash(code) >> 32) % cells as u64) as usize;
+        while words[1 + cell].load(SeqCst) != 0 || !exchange(1 + cell, code + 1) {
+            cell = if cell + 1 == cells { 0 } else { cell + 1 };
+        }
+        cell
+    };
+    let begun = Instant::now();
+    homes.extend(codes[..starts].iter().map(|&code| take(code)));
+    for done in 0..codes.len() {
+        let row = 1 + cells + homes[done] * 2 * rank;
+        for i in 0..rank {
+            let next = nexts[done * rank + i];
+            if next == NONE {
+                exchange(row + i, 1);
+                continue;
+            }
+            if next as usize == homes.len() {
+                homes.push(take(codes[next as usize]));
+            }
+            let to = homes[next as usize];
+            exchange(row + i, to as u64 + 2);
+            exchange(1 + cells + to * 2 * rank + rank + i, homes[done] as u64 + 2);
+        }
+        for i in rank..2 * rank {
+            if words[row + i].load(SeqCst) == 0 {
+                exchange(row + i, 1);
+            }
+        }
+        words[0].fetch_sub(1, SeqCst);
+    }
+    begun.elapsed().as_micros()
+}
+
 fn main() {
     let statistics: Vec<String> = std::env::args().skip(1).collect();
     let mut text = String::new();
@@ -806,6 +853,15 @@ fn main() {
     if statistics == ["growth"] {
         let job = read_job(&text);
         println!("{}", if found(&job.space, &job.starts, job.cells).is_some() { "closed" } else { "full" });
+        return;
+    }
+    if statistics == ["steps"] {
+        let job = read_job(&text);
+        let (codes, nexts) = found(&job.space, &job.starts, job.cells).unwrap_or_else(|| fail("too few cells"));
+        let mut tops: Vec<u64> = job.starts.iter().map(|&start| job.space.top(start)).collect();
+        tops.sort_unstable();
+        tops.dedup();
+        println!("{}", bare_steps(&codes, &nexts, job.cells, job.space.cartan.rank, tops.len()));
         return;
     }
     let (out, status) = answer(&read_job(&text), &statistics);

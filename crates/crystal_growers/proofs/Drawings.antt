@@ -66,7 +66,7 @@ cell_is r t (inr e) = ap cell_of e
 
 module _ (old mid : DeskValue) (c x y : ℕ) (a : Arrow) (r : AddedAnswer) (e : Entered old mid x (By c a) r) (there : HasVertex (state_of old.seat.view.front) c y)
     (leads : op old.seat.view.world.space a y ≡ Some x) where
-  there_in : (t : ℕ) → (r ≡ New t) ⊎ (r ≡ Old t) → HasVertex (state_of mid.seat.view.front) t x
+  pub there_in : (t : ℕ) → (r ≡ New t) ⊎ (r ≡ Old t) → HasVertex (state_of mid.seat.view.front) t x
   there_in t (inl is) = subst (λ (s : AddedAnswer). IsAddedIn mid.seat.view.world (state_of mid.seat.view.front) x s) is e.exact
   there_in t (inr is) = subst (λ (s : AddedAnswer). IsAddedIn mid.seat.view.world (state_of mid.seat.view.front) x s) is e.exact
 

@@ -3,15 +3,17 @@ use Rattle.std.proofs.Common.{◌≡◌, refl, sym, ap, ap₂, subst, ◌∙◌,
 use Rattle.std.specs.List.{IsDistinct}
 use Rattle.std.proofs.Math.Nat.{mul-le-mul_right}
 use Rattle.std.proofs.lemmas.List.{take-append-drop, drop_more}
-use Rattle.std.proofs.lemmas.List.Elements.{Contains-get_or, All-contains, All-push, All-weaker, All-contains_itself, Contains-append_left, Contains-append_right, Contains-append_cases}
+use Rattle.std.proofs.lemmas.List.Elements.{Contains-get_or, All-nil, All-contains, All-push, All-weaker, All-contains_itself, Contains-append_left, Contains-append_right, Contains-append_cases}
+use Rattle.crystal_cartan.specs.declared.types.Arrow.{Arrow}
 use Rattle.tensor_words.specs.Worlds.{WorldType}
+use Rattle.graph_history.specs.declared.answer.Look.{Look}
 use Rattle.graph_history.specs.declared.event.Act.{Act}
 use Rattle.graph_history.specs.declared.event.Act.TheVariants.{Spent, Settled}
 use Rattle.graph_history.specs.declared.event.Event.{Event}
 use Rattle.graph_history.specs.declared.view.View.{View}
 use Rattle.graph_history.specs.History.{state_of, HasSome, IsWhole, IsLegal, calls}
 use Rattle.graph_history.proofs.CellLists.{keep_all}
-use Rattle.graph_history.specs.Desks.{by, without, Standing, Goes, Does, added_cells}
+use Rattle.graph_history.specs.Desks.{by, without, Standing, Goes, Does, look_acts, added_cells}
 use Rattle.graph_history.proofs.DeskSteps.{goes_still, goes_then, goes_within}
 use Rattle.graph_rule.specs.Rule.{IsPrefix, IsKnown, IsComplete}
 use Rattle.graph_rule.specs.Values.{GraphValue, SeatValue}
@@ -23,7 +25,8 @@ use Rattle.crystal_growers.specs.SharedDesks.{DeskValue, standing_of, Worked}
 use Rattle.crystal_growers.specs.Expanding.{IsGrowthAct, taken_back, Expanded}
 use Rattle.crystal_growers.specs.Growth.{Grew, AreWhole, HasEnded, rest_of, IsPaid, Expansions}
 use Rattle.crystal_growers.specs.Work.{CanDraw, HasDrawn, IsJob, IsBack}
-use Rattle.crystal_growers.proofs.SharedSteps.{added_cells-append, worked_none, worked_then, worked_world, worked_belongs}
+use Rattle.crystal_growers.proofs.SharedSteps.{added_cells-append, look_quiet, worked_none, worked_then, worked_world, worked_belongs}
+use Rattle.crystal_growers.proofs.ExpandSteps.{step_run, looked_growth}
 use Rattle.crystal_growers.proofs.Parts.{none_in, first_in, later_in, head_or, rest_has, rest_on, rest_append, rest_same, without_is, distinct_split}
 use Rattle.crystal_growers.proofs.Histories.{never_added, acts_same, grew_none, grew_then, grew_by}
 
@@ -120,6 +123,43 @@ module _ {Bond : Type 0} where
     paid = tt;
     ended = e.ended;
   }
+
+  -- a cell was read, and two of its arrows were looked at
+  read_word : (old new : Standing Bond) (c : ℕ) → HasSome (state_of old.front) c → Goes old new 0 [] → Expansions old new [] None
+  read_word old new c (y, there) g = record {
+    acts = [];
+    goes = goes_within old new 0 (length {A = ℕ} [] * (2 * old.world.space.cartan.rank)) [] (omega arith) g;
+    grew = grew_by old.world old.caller c y old.front new.front [] g.grows there (All-nil (IsGrowthAct old.world.space c y));
+    paid = g.unpaid ∙ sym (keep_all old.unpaid) ∙ sym (append-nil (rest_of [] old.unpaid));
+    ended = λ e h. absurd (none_in e h);
+  }
+
+  looked : (old new : Standing Bond) (c : ℕ) (a : Arrow) (answer : Look) → HasSome (state_of old.front) c → Does old new 0 (look_acts c a answer) → Expansions old new [] None
+  looked old new c a answer (y, there) d =
+      let run = step_run old new c y (look_acts c a answer) d (looked_growth old.world.space c y a answer) (look_quiet c a answer) in
+      record {
+        acts = look_acts c a answer;
+        goes = goes_within old new 0 (length {A = ℕ} [] * (2 * old.world.space.cartan.rank)) (look_acts c a answer) (omega arith) d.goes;
+        grew = grew_by old.world old.caller c y old.front new.front (look_acts c a answer) d.goes.grows there run.growth;
+        paid = run.unpaid ∙ ap (λ (l : List ℕ). l ++ added_cells (look_acts c a answer)) (sym (keep_all old.unpaid));
+        ended = λ e h. absurd (none_in e h);
+      }
+
+  pub goes_there : (old new : Standing Bond) (c places : ℕ) (acts : List Act) → HasSome (state_of old.front) c → Goes old new places acts → HasSome (state_of new.front) c
+  goes_there old new c places acts there g = some_prefix old.front new.front c (g.grows.more, g.grows.is) there
+
+  pub read_there : (old mid : Standing Bond) (c : ℕ) → HasSome (state_of old.front) c → Expansions old mid [] None → HasSome (state_of mid.front) c
+  read_there old mid c there e = goes_there old mid c (length {A = ℕ} [] * (2 * old.world.space.cartan.rank)) e.acts there e.goes
+
+  pub read_more : (old mid word first new : Standing Bond) (c : ℕ) (a b : Arrow) (one two : Look) → HasSome (state_of old.front) c → Expansions old mid [] None → Goes mid word 0 []
+      → Does word first 0 (look_acts c a one) → Does first new 0 (look_acts c b two) → Expansions old new [] None
+  read_more old mid word first new c a b one two there e g d f =
+      let some : HasSome (state_of mid.front) c = read_there old mid c there e in
+      let still : HasSome (state_of word.front) c = goes_there mid word c 0 [] some g in
+      let last : HasSome (state_of first.front) c = goes_there word first c 0 (look_acts c a one) still d.goes in
+      expansions_then old first new [] [] None
+      (expansions_then old mid first [] [] None e (expansions_then mid word first [] [] None (read_word mid word c some g) (looked word first c a one still d) (λ k h. absurd (none_in k h))) (λ k h. absurd (none_in k h)))
+      (looked first new c b two last f) (λ k h. absurd (none_in k h))
 
 -- the next cell of a list is still unpaid
 pub pay_there : {Bond : Type 0} (old mid drawn : Standing Bond) (cells : List ℕ) (i : ℕ) → IsDistinct nat_eq cells → i < length cells → Expansions old mid (take i cells) None

@@ -1,6 +1,7 @@
 pub mod SharedSteps
 pub mod Drawings
 pub mod ExpandSteps
+pub mod BothEnds
 pub mod VertexCodes
 pub mod Parts
 pub mod Histories

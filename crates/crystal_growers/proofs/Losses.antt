@@ -1,5 +1,5 @@
 -- What is known after want of memory.
-use Rattle.std.proofs.Common.{◌≡◌, sym, ap, subst, ◌∙◌, ℕ, List, [], ◌++◌, Option, Result, Ok, Err, IfErr, Contains, append-nil}
+use Rattle.std.proofs.Common.{◌≡◌, sym, ap, subst, ◌∙◌, ℕ, List, [], Option, Result, Ok, Err, IfErr, Contains, append-nil}
 use Rattle.std.proofs.lemmas.List.Elements.{Contains-append_left}
 use Rattle.graph_history.specs.declared.view.Kept.{Kept}
 use Rattle.graph_history.specs.declared.view.View.{View}

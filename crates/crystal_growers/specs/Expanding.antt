@@ -8,7 +8,7 @@ use Rattle.graph_history.specs.declared.event.Origin.TheVariants.{By}
 use Rattle.graph_history.specs.declared.event.Act.{Act}
 use Rattle.graph_history.specs.declared.event.Act.TheVariants.{Added, Spent, Settled}
 use Rattle.graph_history.specs.declared.event.Event.{Event}
-use Rattle.graph_history.specs.History.{state_of, HasVertex, IsWhole}
+use Rattle.graph_history.specs.History.{state_of, HasVertex, IsDrawn, IsWhole}
 use Rattle.graph_history.specs.Desks.{Standing, Goes, added_cells}
 use Rattle.crystal_growers.specs.declared.rows.Spent.{Spent as SpentAnswer}
 
@@ -35,6 +35,17 @@ pub record EndsSpent (acts : List Act) (x : ℕ) : Type 0 where
   pub before : List Act
   pub owed : Bool
   pub is : acts ≡ before ++ Spent x ∷ taken_back owed
+
+-- the arrow of the cell is drawn; or its operator's word found no cell
+abbrev pub ArrowEnded : List Event → ℕ → Arrow → List Act → Result Unit SpentAnswer → Type 0
+ArrowEnded h c a acts (Ok done) = IsDrawn (state_of h) c a
+ArrowEnded h c a acts (Err e) = EndsSpent acts e.code
+
+-- what the drawing of one arrow of the cell c tells, y being the code there
+pub record ArrowDrawn {Bond : Type 0} (old new : Standing Bond) (c y : ℕ) (a : Arrow) (answer : Result Unit SpentAnswer) : Type 0 where
+  pub acts : List Act
+  pub run : Expanding old new c y 1 acts
+  pub ended : ArrowEnded new.front c a acts answer
 
 -- all arrows of the cell are drawn; or some operator's word found no cell
 abbrev pub Ended : WorldType → List Event → ℕ → List Act → Result Unit SpentAnswer → Type 0

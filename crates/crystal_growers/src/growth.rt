@@ -1,27 +1,57 @@
 //! The arrows of several cells.
-ghost use Rattle.std.specs.Prelude.{◌≡◌, ℕ, ◌*◌, ◌≤◌, nat_eq, length, All, Contains};
+ghost use Rattle.std.specs.Prelude.{◌≡◌, ℕ, ◌*◌, ◌≤◌, nat_eq, [], None, length, All, Contains};
 ghost use Rattle.std.specs.List.{IsDistinct};
 ghost use Rattle.graph_history.specs.History.{state_of, HasSome};
+ghost use Rattle.crystal_growers.specs.SharedDesks.{standing_of};
 ghost use Rattle.crystal_growers.specs.Growth.{Expansions};
 
-use crate::rows::{Spent, expand};
-use graph_history::Desk;
+use crate::both_ends::expand_both;
+use crate::rows::Spent;
+use crate::shared::SharedDesk;
+use crystal_cartan::Arrow;
 
 /// Draws all arrows of these cells, one cell after another, and pays for each as soon as it is whole. Where some word
 /// found no cell it answers the code. Takes no memory.
-pub(crate) fn expand_all<D: Desk>(desk: &mut D, cells: &[u32]) -> Option<u64>
-    requires there { All (HasSome (state_of (D.standing desk.old).front)) cells.now }
-    requires room { length cells.now * (2 * (D.standing desk.old).world.space.cartan.rank) ≤ (D.standing desk.old).room }
+pub(crate) fn expand_all(desk: &mut SharedDesk, cells: &[u32]) -> Option<u64>
+    requires there { All (HasSome (state_of desk.old.seat.view.front)) cells.now }
+    requires room { length cells.now * (2 * desk.old.seat.view.world.space.cartan.rank) ≤ desk.old.room }
     requires once { IsDistinct nat_eq cells.now }
-    requires unpaid { (c : ℕ) → Contains cells.now c → Contains (D.standing desk.old).unpaid c }
-    ensures { Expansions (D.standing desk.old) (D.standing desk.new) cells.now result }
+    requires unpaid { (c : ℕ) → Contains cells.now c → Contains desk.old.seat.view.dues.unpaid c }
+    ensures { Expansions (standing_of desk.old) (standing_of desk.new) cells.now result }
 {
-    let _space = desk.space();
+    let _world = desk.world();
+    read_ahead(desk, cells);
     'cells: for cell in cells {
-        match expand(desk, *cell) {
-            Ok(()) => desk.pay(*cell),
+        match expand_both(desk, *cell) {
+            Ok(()) => desk.settle(*cell),
             Err(Spent { code }) => return Some(code),
         }
     }
     None
+}
+
+/// Reads each cell and both ends of its row of arrows. The processor does many such reads at once, but none while it
+/// exchanges a word: so they come before the first arrow is drawn.
+fn read_ahead(desk: &mut SharedDesk, cells: &[u32])
+    requires { All (HasSome (state_of desk.old.seat.view.front)) cells.now }
+    ensures { Expansions (standing_of desk.old) (standing_of desk.new) [] None }
+{
+    let rank = desk.world().space().cartan().rank();
+    'cells: for cell in cells {
+        desk.code_at(*cell);
+        desk.glance(
+            *cell,
+            Arrow {
+                down: true,
+                index: 1,
+            },
+        );
+        desk.glance(
+            *cell,
+            Arrow {
+                down: false,
+                index: rank,
+            },
+        );
+    }
 }

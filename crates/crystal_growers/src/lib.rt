@@ -4,7 +4,9 @@
 //! they run on a desk in memory. Each of its calls makes atomic steps on one table and waits for nobody. It keeps the
 //! list of the cells that it added, and gives back its seat with the list in the end.
 //!
-//! `expand` draws all arrows of one cell, on any desk. What it puts in comes by arrows of this cell alone.
+//! `expand` draws all arrows of one cell, on any desk. What it puts in comes by arrows of this cell alone. Growers do the
+//! same on the shared table, and draw with each arrow the arrow back (`both_ends`), so that no arrow is looked up from
+//! both of its ends; and they remember where words were met (`hints`). No clause says so.
 //!
 //! `grow` draws all arrows of the given cells and of all that it adds, by growers on threads of their own, each at a seat
 //! that is split off and joins again. It works by rounds: the cells that wait are dealt to the growers (`deal`), each
@@ -23,12 +25,14 @@
 //! specs/SharedDesks.antt first, then `rows` with specs/Expanding.antt, `rounds` with specs/Rounds.antt, and `finishing`.
 #![tactic(auto)]
 
+mod both_ends;
 mod deal;
 mod finishing;
 mod gather;
 mod growth;
 #[cfg(test)]
 mod growth_tests;
+mod hints;
 mod rounds;
 mod rows;
 mod shared;

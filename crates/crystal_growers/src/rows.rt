@@ -2,8 +2,8 @@
 ghost use Rattle.std.specs.Prelude.{◌≡◌, ℕ, ◌<◌, ◌≤◌, ◌*◌, Some};
 ghost use Rattle.tensor_words.specs.Spaces.{size, SpaceType};
 ghost use Rattle.tensor_words.specs.Operators.{IsArrow, op};
-ghost use Rattle.graph_history.specs.History.{state_of, HasSome};
-ghost use Rattle.crystal_growers.specs.Expanding.{Expanded};
+ghost use Rattle.graph_history.specs.History.{state_of, HasVertex, HasSome};
+ghost use Rattle.crystal_growers.specs.Expanding.{Expanded, ArrowDrawn};
 
 use crystal_cartan::Arrow;
 use graph_history::{Desk, Draw};
@@ -25,13 +25,26 @@ pub fn expand<D: Desk>(desk: &mut D, cell: u32) -> Result<(), Spent>
 {
     let rank = desk.space().cartan().rank();
     let code = desk.word(cell);
-    let _space = desk.space();
     'arrows: for place in 0..2 * rank {
-        let arrow = arrow_at(rank, place);
-        if let Draw::Full = desk.draw(cell, arrow) {
-            let code = target(desk.space(), code, arrow);
-            return Err(Spent { code });
+        match draw_one(desk, cell, code, arrow_at(rank, place)) {
+            Ok(()) => (),
+            Err(spent) => return Err(spent),
         }
+    }
+    Ok(())
+}
+
+/// Draws one arrow of a cell, whose code is `code`.
+fn draw_one<D: Desk>(desk: &mut D, cell: u32, code: u64, arrow: Arrow) -> Result<(), Spent>
+    requires there { HasVertex (state_of (D.standing desk.old).front) cell code }
+    requires arrow { IsArrow (D.standing desk.old).world.space arrow }
+    requires room { 0 < (D.standing desk.old).room }
+    ensures { ArrowDrawn (D.standing desk.old) (D.standing desk.new) cell code arrow result }
+{
+    let _space = desk.space();
+    if let Draw::Full = desk.draw(cell, arrow) {
+        let code = target(desk.space(), code, arrow);
+        return Err(Spent { code });
     }
     Ok(())
 }

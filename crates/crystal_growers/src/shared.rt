@@ -11,13 +11,15 @@ ghost use Rattle.graph_rule.specs.Layout.{LeadsTo};
 ghost use Rattle.graph_rule.specs.Rule.{whole, IsKnown};
 ghost use Rattle.graph_rule.specs.Told.{drawn_acts};
 ghost use Rattle.graph_rule.specs.Values.{Belongs};
+ghost use Rattle.intern_cells.specs.Entries.{Enters, IsAddedIn};
 ghost use Rattle.crystal_growers.specs.SharedDesks.{standing_of, Worked, Entered};
 
+use crate::hints::Hints;
 use crystal_cartan::Arrow;
 use edge_words::{look, set};
 use graph_history::{Added, Draw, Look, Origin};
 use graph_rule::{Graph, Seat, pay, tally};
-use intern_cells::{add, find, word};
+use intern_cells::{add, add_at, find, word};
 use signature_rule::LastWord;
 use std::alloc::Global;
 use std::marker::Model;
@@ -40,6 +42,7 @@ pub struct SharedDesk<'a> {
     room: u64,
     added: Vec<u32>,
     last: LastWord,
+    hints: Hints,
 }
 
 impl<'a> Model for SharedDesk<'a> {
@@ -66,6 +69,21 @@ impl<'a> SharedDesk<'a> {
         requires pledge { seat.view.dues.pledge ≡ 0 }
         ensures { MatchResult result (λ d. d ≡ record { first = seat; seat = seat; room = room; added = [] }) (λ e. e.seat ≡ seat) }
     {
+        SharedDesk::with_hints(alloc, graph, seat, room, Hints::none(alloc))
+    }
+
+    /// The same with hints where words may be.
+    pub(crate) fn with_hints(
+        alloc: Global,
+        graph: &'a Graph,
+        seat: Seat,
+        room: usize,
+        hints: Hints,
+    ) -> Result<SharedDesk<'a>, NoRoom>
+        requires belongs { Belongs seat graph.now }
+        requires pledge { seat.view.dues.pledge ≡ 0 }
+        ensures { MatchResult result (λ d. d ≡ record { first = seat; seat = seat; room = room; added = [] }) (λ e. e.seat ≡ seat) }
+    {
         let _stake = seat.stake();
         let Ok(added) = Vec::with_capacity(alloc, room) else {
             return Err(NoRoom { seat });
@@ -78,6 +96,7 @@ impl<'a> SharedDesk<'a> {
             room: room as u64,
             added,
             last,
+            hints,
         })
     }
 
@@ -88,6 +107,15 @@ impl<'a> SharedDesk<'a> {
         ensures worked { (acts : List ActType) × Worked self.entry.first result.0 acts × (result.1.items ≡ added_cells acts) }
     {
         (self.seat, self.added)
+    }
+
+    /// The same with the hints.
+    pub(crate) fn into_parts_with_hints(self) -> (Seat, Vec<u32>, Hints)
+        ensures seat { result.0 ≡ self.entry.seat }
+        ensures added { result.1.items ≡ self.entry.added }
+        ensures worked { (acts : List ActType) × Worked self.entry.first result.0 acts × (result.1.items ≡ added_cells acts) }
+    {
+        (self.seat, self.added, self.hints)
     }
 
     pub(crate) fn world(&self) -> &World
@@ -160,7 +188,8 @@ impl<'a> SharedDesk<'a> {
         ensures { Entered self.old self.new code origin result }
     {
         self.room -= 1;
-        let answer = add(self.graph, &mut self.seat, code, origin);
+        let answer = add_near(self.graph, &mut self.seat, &self.hints, code, origin);
+        self.hints.note(code, answer);
         if let Added::New { cell } = answer {
             self.added.push_reserved(cell);
         }
@@ -177,7 +206,7 @@ impl<'a> SharedDesk<'a> {
     }
 
     /// The code of what the operator of an arrow makes of a word.
-    fn next(&mut self, code: u64, arrow: Arrow) -> Option<u64>
+    pub(crate) fn next(&mut self, code: u64, arrow: Arrow) -> Option<u64>
         requires code { code < size self.old.seat.view.world.space }
         requires arrow { IsArrow self.old.seat.view.world.space arrow }
         ensures same { self.new ≡ self.old }
@@ -219,5 +248,20 @@ impl<'a> SharedDesk<'a> {
             }
             Added::Full => Draw::Full,
         }
+    }
+}
+
+/// Puts in a word. Where there are hints, it is looked for first where one says.
+fn add_near(graph: &Graph, seat: &mut Seat, hints: &Hints, code: u64, origin: Origin) -> Added
+    requires belongs { Belongs seat.old graph.now }
+    requires origin { IsOrigin seat.old.view.world (state_of seat.old.view.front) code origin }
+    requires pledge { seat.old.view.dues.pledge ≡ 0 }
+    ensures table { seat.new.table ≡ seat.old.table }
+    ensures entry { Enters seat.old.view seat.new.view code origin result }
+    ensures exact { IsAddedIn seat.new.view.world (state_of seat.new.view.front) code result }
+{
+    match hints.near(code) {
+        Some(near) => add_at(graph, seat, code, origin, near),
+        None => add(graph, seat, code, origin),
     }
 }

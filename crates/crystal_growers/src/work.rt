@@ -3,6 +3,7 @@ ghost use Rattle.std.specs.Prelude.{◌≡◌, ◌≤◌, length, IfOk};
 ghost use Rattle.crystal_growers.specs.Work.{CanDraw, IsDrawn, IsDone};
 
 use crate::growth::expand_all;
+use crate::hints::Hints;
 use crate::shared::SharedDesk;
 use crystal_streams::{Gate, NoMemory};
 use graph_rule::{Graph, Seat};
@@ -12,12 +13,13 @@ use std::alloc::Global;
 const PARCEL: usize = 64;
 
 /// What came of some cells: the seat that drew them, the cells that it added, and, where some word found no cell, its
-/// code.
+/// code; and the hints, which it used and kept.
 #[derive(Drop)]
 pub(crate) struct Drawn {
     pub(crate) seat: Seat,
     pub(crate) added: Vec<u32>,
     pub(crate) full: Option<u64>,
+    pub(crate) hints: Hints,
 }
 
 /// What a grower is given: a seat of its own, its cells, its number, and its next turn at the gate.
@@ -46,6 +48,7 @@ pub(crate) fn parcel(
     graph: &Graph,
     seat: Seat,
     cells: &[u32],
+    hints: Hints,
 ) -> Result<Drawn, NoMemory>
     requires can { CanDraw graph.now cells.now seat }
     requires few { length cells.now ≤ 64 }
@@ -53,12 +56,17 @@ pub(crate) fn parcel(
 {
     let rank = graph.world().space().cartan().rank() as usize;
     let room = cells.len() * (2 * rank);
-    let Ok(mut desk) = SharedDesk::new(alloc, graph, seat, room) else {
+    let Ok(mut desk) = SharedDesk::with_hints(alloc, graph, seat, room, hints) else {
         return Err(NoMemory);
     };
     let full = expand_all(&mut desk, cells);
-    let (seat, added) = desk.into_parts();
-    Ok(Drawn { seat, added, full })
+    let (seat, added, hints) = desk.into_parts_with_hints();
+    Ok(Drawn {
+        seat,
+        added,
+        full,
+        hints,
+    })
 }
 
 /// The first turn of a grower is its start, before anything else; then come its parcels.
@@ -85,13 +93,15 @@ pub(crate) fn work<G: Gate>(graph: &Graph, gate: &G, job: Job) -> Result<Share, 
     let _stake = seat.stake();
     let mut turn = start(gate, worker, turn);
     let mut added = Vec::new(alloc);
+    let mut hints = Hints::new(alloc, cells.len())?;
     let mut rest = cells.as_slice();
     'parcels: while !rest.is_empty() {
         let (part, later) = rest.split_at(usize::min(PARCEL, rest.len()));
         gate.pass(worker, turn);
         turn = turn.wrapping_add(1);
-        let drawn = parcel(alloc, graph, seat, part)?;
+        let drawn = parcel(alloc, graph, seat, part, hints)?;
         seat = drawn.seat;
+        hints = drawn.hints;
         added.extend_from_slice(drawn.added.as_slice())?;
         if let Some(code) = drawn.full {
             return Ok(Share {

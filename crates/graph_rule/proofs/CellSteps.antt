@@ -19,7 +19,7 @@ use Rattle.graph_history.specs.Desks.{by}
 use Rattle.graph_history.proofs.Fitting.{vertices_fit}
 use Rattle.graph_rule.specs.Layout.{IsLaid, code_word, is_last, IsPlaced, IsSearched}
 use Rattle.graph_rule.specs.Rule.{IsDues, IsUnpaid, Fits, IsRunning}
-use Rattle.graph_rule.specs.Told.{advanced, cell_word, sought_acts, roomed_acts, looked, sought, roomed}
+use Rattle.graph_rule.specs.Told.{advanced, cell_word, confirmed_acts, sought_acts, roomed_acts, looked, confirmed, sought, roomed}
 use Rattle.graph_rule.proofs.Views.{stays_prefix, some_prefix}
 use Rattle.graph_rule.proofs.Advance.{Elsewhere, Moves, fits_here, advance, tells}
 use Rattle.graph_rule.proofs.Paths.{word_none, word_some, word_other, searched_stays, new_at_empty, new_at_last, full_at_last}
@@ -48,6 +48,20 @@ module _ (w : WorldType) (s : State) (n : ℕ) (c x : ℕ) where
 
   pub roomed_still : (word : ℕ) → state_from s (by n (roomed_acts w c x word)) ≡ s
   roomed_still word = roomed_still_by (word == 0) (word == x + 1) (is_last w x c)
+
+  confirmed_still_by : (p : Bool) → state_from s (by n (confirmed_acts c x p)) ≡ s
+  confirmed_still_by true = refl
+  confirmed_still_by false = refl
+
+  pub confirmed_still : (word : ℕ) → state_from s (by n (confirmed_acts c x (word == x + 1))) ≡ s
+  confirmed_still word = confirmed_still_by (word == x + 1)
+
+  pub confirmed_legal : (word : ℕ) → word ≡ code_word (vertex_at s.vertices c) → LegalFrom w s (by n (confirmed_acts c x (word == x + 1)))
+  confirmed_legal word is = by_test (word == x + 1) refl
+    where
+      by_test : (b : Bool) → (word == x + 1) ≡ b → LegalFrom w s (by n (confirmed_acts c x b))
+      by_test true e = (word_some (vertex_at s.vertices c) x (sym is ∙ eqb-true word (x + 1) e), tt)
+      by_test false e = tt
 
   module _ (q : IsSearched w s c x) (placed : (d y : ℕ) → HasVertex s d y → IsPlaced w s d y) (is_word : x < size w.space) (word : ℕ) (is : word ≡ code_word (vertex_at s.vertices c)) where
     found_none : (word == 0) ≡ true → vertex_at s.vertices c ≡ None
@@ -174,6 +188,21 @@ module _ (key : WorldType) (slots id : ℕ) (me : Me Unit View) (live : 0 < me.0
         advance r id me.0 at live [] me.0.dues (set s.words i (slice_index s.words i)) m,
         (refl, tells r id me.0 at live [] me.0.dues (set s.words i (slice_index s.words i)) m, read_then r at [] me.0.dues refl),
       )
+
+  module _ (x : ℕ) where
+    pub confirms : Allows rule slots id me i (λ n. n) (confirmed c x any me)
+    confirms s r homes at fit =
+        let word = slice_index s.words i in
+        let acts = confirmed_acts c x (word == x + 1) in
+        let same = confirmed_still key (state_of r.history) me.0.number c x word in
+        let legal = confirmed_legal key (state_of r.history) me.0.number c x word (read r at) in
+        let m = still r id me.0 at live acts (set s.words i word) same (left s.words) legal in (
+          advanced me.0 r.history acts me.0.dues,
+          keeps,
+          tt,
+          advance r id me.0 at live acts me.0.dues (set s.words i word) m,
+          (refl, tells r id me.0 at live acts me.0.dues (set s.words i word) m, read_then r at acts me.0.dues same),
+        )
 
   module _ (x : ℕ) (q : IsSearched me.0.world (state_of me.0.front) c x) (is_word : x < size me.0.world.space) where
     pub seeks : Allows rule slots id me i (λ n. n) (sought c x any me)

@@ -56,6 +56,18 @@ module _ (u v w : View) (s : Watched u v) where
     alone = λ all. let before = s.alone all in let here = a.alone (stake_same ∙ all) in ap (λ (l : List Event). l ++ a.between) before ∙ here;
   }
 
+  -- several steps with events
+  pub then_went : (acts : List Act) (d : Dues) → Went v w acts d → Went u w acts d
+  then_went acts d g = record {
+    more = s.more ++ g.more;
+    is = g.is ∙ ap (λ (x : View). record x { calls = x.calls ++ by x.number acts; front = x.front ++ g.more; dues = d }) s.is
+        ∙ ap (λ (h : List Event). record u { calls = u.calls ++ by u.number acts; front = h; dues = d }) (append_assoc u.front s.more g.more);
+    own = calls-append s.more g.more u.number ∙ ap (λ (l : List Event). l ++ calls g.more u.number) s.quiet ∙ subst (λ (n : ℕ). calls g.more n ≡ by n acts) number_same g.own;
+    alone = λ all. ap (λ (l : List Event). l ++ g.more) (s.alone all) ∙ g.alone (stake_same ∙ all) ∙ ap (λ (n : ℕ). by n acts) number_same;
+    known = g.known;
+    complete = g.complete;
+  }
+
 -- what was seen stays
 pub watched_stays : (v w : View) → Watched v w → Stays (state_of v.front) (state_of w.front)
 watched_stays v w s = stays_prefix v.front w.front (s.more, ap (λ (x : View). x.front) s.is)

@@ -1,5 +1,5 @@
 -- The steps on arrows: loads, and the exchange that draws an arrow.
-use Rattle.std.proofs.Common.{◌≡◌, ◌≢◌, refl, sym, ap, subst, ◌∙◌, ℕ, ◌+◌, ◌*◌, ◌<◌, ◌≤◌, ◌==◌, ◌&&◌, ◌⊎◌, inl, inr, Bool, true, false, eqb, eqb-true, List, [], ◌∷◌, ◌++◌, length, set, slice_index, Option, Some, None, Contains, arith}
+use Rattle.std.proofs.Common.{◌≡◌, ◌≢◌, refl, sym, ap, subst, ◌∙◌, ℕ, ◌+◌, ◌<◌, ◌≤◌, ◌==◌, ◌&&◌, ◌⊎◌, inl, inr, Bool, true, false, eqb, List, [], ◌∷◌, length, set, slice_index, Option, Some, None, Contains, arith}
 use Rattle.std.proofs.lemmas.Grind.{common_steps}
 use Rattle.std.proofs.lemmas.List.{set-get_or, get_or-set_same, get_or-set_other, length-set}
 use mathlib.Core.Option.{some, none}
@@ -11,19 +11,18 @@ use Rattle.crystal_cartan.specs.declared.types.Arrow.{Arrow}
 use Rattle.tensor_words.specs.Operators.{IsArrow, op}
 use Rattle.tensor_words.specs.Worlds.{WorldType}
 use Rattle.graph_history.specs.declared.event.Act.{Act}
-use Rattle.graph_history.specs.declared.event.Act.TheVariants.{Drew, Saw, Blank}
-use Rattle.graph_history.specs.declared.event.Event.{Event}
+use Rattle.graph_history.specs.declared.event.Act.TheVariants.{Drew, Saw}
 use Rattle.graph_history.specs.declared.view.Dues.{Dues}
 use Rattle.graph_history.specs.declared.view.View.{View}
-use Rattle.graph_history.specs.History.{State, DrawnArrow, after, state_from, state_of, vertex_at, target_at, same_arrow, HasVertex, HasSome, HasArrow, IsUndrawn, IsTarget, IsWhole, IsLegal, LegalFrom}
+use Rattle.graph_history.specs.History.{State, after, state_from, state_of, target_at, same_arrow, HasVertex, HasSome, HasArrow, IsUndrawn, IsTarget, IsWhole, LegalFrom}
 use Rattle.graph_history.specs.Laws.{Stays}
 use Rattle.graph_history.specs.Desks.{by}
 use Rattle.graph_history.specs.ArrowRows.{edge_place, edge_word}
 use Rattle.graph_history.proofs.Histories.{one_code, target_at-new, target_at-other, same_edge, own_edge, stays_after}
 use Rattle.graph_history.proofs.ArrowPlaces.{same_place, edge_fits}
 use Rattle.graph_history.proofs.SoundStates.{IsSound, sound, target_stays}
-use Rattle.graph_rule.specs.Layout.{word_count, IsLaid, IsPlaced, LeadsTo, arrow_index}
-use Rattle.graph_rule.specs.Rule.{IsDues, IsKnown, Fits, IsRunning}
+use Rattle.graph_rule.specs.Layout.{word_count, IsLaid, LeadsTo, arrow_index}
+use Rattle.graph_rule.specs.Rule.{IsKnown, Fits, IsRunning}
 use Rattle.graph_rule.specs.Values.{SeatValue, GraphValue, Belongs}
 use Rattle.graph_rule.specs.Told.{advanced, Advances, target_in, glanced_acts, drawn_acts, glanced, drawn}
 use Rattle.graph_rule.proofs.Views.{whole_stays, state_more}

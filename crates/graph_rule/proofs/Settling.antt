@@ -4,7 +4,7 @@ use Rattle.std.proofs.lemmas.List.Elements.{All-contains}
 use Rattle.tensor_words.specs.Worlds.{WorldType}
 use Rattle.graph_history.specs.declared.event.Event.{Event}
 use Rattle.graph_history.specs.declared.view.View.{View}
-use Rattle.graph_history.specs.History.{state_of, HasSome, IsWhole, IsClosed}
+use Rattle.graph_history.specs.History.{state_of, IsWhole, IsClosed}
 use Rattle.graph_rule.specs.Rule.{whole, IsComplete}
 
 pub settled : (v : View) (w : WorldType) (f : List Event) → IsComplete v → v.stake ≡ whole → All (IsWhole v.world (state_of v.front)) v.dues.unpaid

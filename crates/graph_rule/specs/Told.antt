@@ -64,6 +64,11 @@ roomed_acts w c x n =
 abbrev pub claimed_acts : ℕ → ℕ → Origin → ℕ → List Act
 claimed_acts c x o n = if n == 0 then Added c x o ∷ [] else (if n == x + 1 then Met c x ∷ [] else [])
 
+-- the act of a load of the cell c to see whether it has the code x, by whether it has
+abbrev pub confirmed_acts : ℕ → ℕ → Bool → List Act
+confirmed_acts c x true = Met c x ∷ []
+confirmed_acts c x false = []
+
 -- what is drawn of an arrow by the front: nothing, or its target
 abbrev pub target_in : View → ℕ → Arrow → Option (Option ℕ)
 target_in v c a = target_at (state_of v.front).drawn c a
@@ -115,6 +120,10 @@ roomed c x step old n new =
 abbrev pub claimed : ℕ → ℕ → Origin → Step Unit → Me Unit View → ℕ → Me Unit View → Type 0
 claimed c x o step old n new =
     (new.1 ≡ old.1) × Advances old.0 new.0 (claimed_acts c x o n) (claimed_dues c n old.0.dues) × (n ≢ 0 → n ≡ cell_word new.0 c)
+
+abbrev pub confirmed : ℕ → ℕ → Step Unit → Me Unit View → ℕ → Me Unit View → Type 0
+confirmed c x step old n new =
+    (new.1 ≡ old.1) × Advances old.0 new.0 (confirmed_acts c x (n == x + 1)) old.0.dues × (n ≡ cell_word new.0 c)
 
 abbrev pub met : Step Unit → Me Unit View → ℕ → Me Unit View → Type 0
 met step old n new = (new.1 ≡ old.1) × Advances old.0 new.0 [] old.0.dues

@@ -29,4 +29,4 @@ pub use graph::Graph;
 pub use payments::{owe, pay, release, tally};
 pub use rule::Running;
 pub use seat::Seat;
-pub use steps::{claim, load_cell, seek, seek_room};
+pub use steps::{claim, confirm, load_cell, seek, seek_room};

@@ -5,7 +5,7 @@ ghost use Rattle.std.specs.Prelude.{ℕ, true, List, [], Option, None};
 ghost use Rattle.crystal_cartan.specs.declared.types.Arrow.{Arrow as ArrowType};
 ghost use Rattle.graph_history.specs.declared.event.Origin.{Origin as OriginType};
 ghost use Rattle.graph_history.specs.declared.event.Origin.TheVariants.{Root};
-ghost use Rattle.graph_rule.specs.Told.{looked, sought, roomed, claimed, met, owes, releases, pays, tallied, glanced, drawn};
+ghost use Rattle.graph_rule.specs.Told.{looked, confirmed, sought, roomed, claimed, met, owes, releases, pays, tallied, glanced, drawn};
 ghost use Rattle.graph_rule.specs.Parting.{hand_left, hand_right, joined, nobody};
 
 use atomic_table::{Join, Play, Split};
@@ -36,6 +36,15 @@ pub(crate) struct Look<J> {
 
 impl<J: Asked> Play<(), View> for Look<J> {
     ghost then = { looked J.cell };
+}
+
+/// A load of a cell to see whether it has a code.
+pub(crate) struct Confirm<J> {
+    of: PhantomData<J>,
+}
+
+impl<J: Asked> Play<(), View> for Confirm<J> {
+    ghost then = { confirmed J.cell J.code };
 }
 
 /// A load of a cell in search of a code.

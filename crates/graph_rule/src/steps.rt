@@ -1,14 +1,14 @@
 //! The steps on cells. Each is one atomic step, and what it tells is exact: which event it adds, if any, and the word
 //! that the history gives to the cell.
-ghost use Rattle.std.specs.Prelude.{◌≡◌, ◌≢◌, ◌<◌, ◌+◌, [], ℕ};
+ghost use Rattle.std.specs.Prelude.{◌≡◌, ◌≢◌, ◌<◌, ◌+◌, ◌==◌, [], ℕ};
 ghost use Rattle.tensor_words.specs.Spaces.{size};
 ghost use Rattle.graph_history.specs.History.{state_of, IsOrigin};
 ghost use Rattle.graph_rule.specs.Layout.{IsSearched};
-ghost use Rattle.graph_rule.specs.Told.{Advances, cell_word, sought_acts, roomed_acts, claimed_acts, claimed_dues};
+ghost use Rattle.graph_rule.specs.Told.{Advances, cell_word, confirmed_acts, sought_acts, roomed_acts, claimed_acts, claimed_dues};
 ghost use Rattle.graph_rule.specs.Values.{Belongs};
 
 use crate::graph::Graph;
-use crate::plays::{Asked, Claim, Look, Seek, SeekRoom};
+use crate::plays::{Asked, Claim, Confirm, Look, Seek, SeekRoom};
 use crate::seat::Seat;
 use graph_history::Origin;
 use std::marker::Brand;
@@ -36,6 +36,35 @@ fn load_cell_as<J: Asked>(graph: &Graph, seat: &mut Seat, cell: u32) -> u64
         .board
         .shared
         .load::<Look<J>>(&mut seat.token, 1 + cell as usize)
+}
+
+/// Whether the vertex of this cell has this code. The event is `Met` where it has; else there is none. Unlike a search it
+/// looks at this one cell alone, so it asks for no path.
+pub fn confirm(graph: &Graph, seat: &mut Seat, cell: u32, code: u64) -> bool
+    requires belongs { Belongs seat.old graph.now }
+    requires cell { cell < graph.now.world.cells }
+    requires word { code < size seat.old.view.world.space }
+    ensures table { seat.new.table ≡ seat.old.table }
+    ensures view { Advances seat.old.view seat.new.view (confirmed_acts cell code result) seat.old.view.dues }
+    ensures exact { result ≡ (cell_word seat.new.view cell == code + 1) }
+{
+    confirm_as::<Brand>(graph, seat, cell, code)
+}
+
+fn confirm_as<J: Asked>(graph: &Graph, seat: &mut Seat, cell: u32, code: u64) -> bool
+    requires asked { (J.cell ≡ cell) × (J.code ≡ code) }
+    requires belongs { Belongs seat.old graph.now }
+    requires cell { cell < graph.now.world.cells }
+    requires word { code < size seat.old.view.world.space }
+    ensures table { seat.new.table ≡ seat.old.table }
+    ensures view { Advances seat.old.view seat.new.view (confirmed_acts cell code result) seat.old.view.dues }
+    ensures exact { result ≡ (cell_word seat.new.view cell == code + 1) }
+{
+    let word = graph
+        .board
+        .shared
+        .load::<Confirm<J>>(&mut seat.token, 1 + cell as usize);
+    word == code + 1
 }
 
 /// The word of a cell in search of a code, which is searched up to this cell. The event is `Met` where the code is found

@@ -1,5 +1,5 @@
 -- An entry from the steps of which it is made.
-use Rattle.std.proofs.Common.{◌≡◌, sym, ap, subst, ◌∙◌, ℕ, ◌<◌, List, [], ◌∷◌, None}
+use Rattle.std.proofs.Common.{◌≡◌, sym, ap, subst, ◌∙◌, ℕ, ◌<◌, Bool, true, false, List, [], ◌∷◌, None}
 use Rattle.tensor_words.specs.Spaces.{size}
 use Rattle.tensor_words.specs.Worlds.{WorldType}
 use Rattle.graph_history.specs.declared.event.Origin.{Origin}
@@ -14,13 +14,13 @@ use Rattle.graph_history.specs.Desks.{Grows, IsEntry, met, spent, added, owed_me
 use Rattle.graph_history.proofs.OwnActs.{spent_full, added_there, met_there}
 use Rattle.graph_rule.specs.Layout.{IsSearched}
 use Rattle.graph_rule.specs.Rule.{IsKnown}
-use Rattle.graph_rule.specs.Told.{Advances, Watched, Went, pledged, unpledged, with_cell}
+use Rattle.graph_rule.specs.Told.{Advances, Watched, Went, confirmed_acts, pledged, unpledged, with_cell}
 use Rattle.graph_rule.specs.Values.{SeatValue, GraphValue, Belongs}
 use Rattle.graph_rule.proofs.CellSteps.{origin_stays}
-use Rattle.graph_rule.proofs.Composing.{watched_stays, advanced_stays, went_one, went_then, went_watched, went_grows, step_ends, origin_word}
+use Rattle.graph_rule.proofs.Composing.{watched_none, then_watch, then_went, watched_stays, advanced_stays, went_one, went_then, went_watched, went_grows, step_ends, origin_word}
 use Rattle.graph_rule.proofs.Paths.{searched_stays}
 use Rattle.intern_cells.specs.Entries.{Enters, IsAddedIn, entered_dues}
-use Rattle.intern_cells.specs.Search.{IsAt}
+use Rattle.intern_cells.specs.Search.{Confirmed, IsAt}
 
 -- the answer of an entry is that of the front which is left
 module _ (v w : View) (x : ℕ) (o : Origin) where
@@ -104,6 +104,30 @@ module _ (u v w : View) (x : ℕ) (o : Origin) (s : Watched u v) (owe : Advances
 
   pub full_entry : u.dues.pledge ≡ 0 → (third last : View) → Advances w third (Spent x ∷ []) w.dues → Advances third last (Settled None ∷ []) (unpledged third.dues) → Enters u last x o Full
   full_entry free third last a back = record { acts = Owed ∷ Spent x ∷ Settled None ∷ []; entry = owed_spent; went = went_back free (Spent x) third last a back; last = last_back free (Spent x) third last a back }
+
+-- what a look at one cell told, and an entry after a look that found nothing
+pub confirmed_at : (v w : View) (c x : ℕ) (b : Bool) → Advances v w (confirmed_acts c x b) v.dues → Confirmed v w c x b
+confirmed_at v w c x true a = a
+confirmed_at v w c x false a = then_watch v v w (watched_none v) a
+
+module _ (u v : View) (s : Watched u v) where
+  pub pledge_watched : u.dues.pledge ≡ 0 → v.dues.pledge ≡ 0
+  pledge_watched free = ap (λ (z : View). z.dues.pledge) s.is ∙ free
+
+  pub origin_watched : (x : ℕ) (o : Origin) → IsOrigin u.world (state_of u.front) x o → IsOrigin v.world (state_of v.front) x o
+  origin_watched x o h =
+      subst (λ (k : WorldType). IsOrigin k (state_of v.front) x o) (sym (ap (λ (z : View). z.world) s.is)) (origin_stays u.world (state_of u.front) (state_of v.front) x o (watched_stays u v s) h)
+
+  pub watched_entry : (w : View) (x : ℕ) (o : Origin) (answer : Added) → Enters v w x o answer → Enters u w x o answer
+  watched_entry w x o answer e = record {
+    acts = e.acts;
+    entry = e.entry;
+    went = subst (λ (d : Dues). Went u w e.acts d) (ap (λ (z : View). entered_dues answer z.dues) s.is) (then_went u v w s e.acts (entered_dues answer v.dues) e.went);
+    last = subst (λ (n : ℕ). EndsWith n w.front) (ap (λ (z : View). z.number) s.is) e.last;
+  }
+
+pub belongs_watched : (s t : SeatValue) (g : GraphValue) → t.table ≡ s.table → Watched s.view t.view → Belongs s g → Belongs t g
+belongs_watched s t g same watched b = record { table = same ∙ b.table; world = ap (λ (z : View). z.world) watched.is ∙ b.world }
 
 -- a word that may be put in is a word of the graph's space
 pub word_of_origin : (s : SeatValue) (g : GraphValue) (x : ℕ) (o : Origin) → Belongs s g → IsKnown s.view → IsOrigin s.view.world (state_of s.view.front) x o → x < size g.world.space

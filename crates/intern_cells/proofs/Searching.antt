@@ -1,28 +1,26 @@
 -- A search along the path of a code, step by step.
-use Rattle.std.proofs.Common.{◌≡◌, ◌≢◌, refl, sym, ap, subst, ◌∙◌, ℕ, ◌+◌, ◌-◌, ◌%◌, ◌*◌, ◌/◌, ◌^◌, ◌<◌, ◌⊎◌, inl, inr, Bool, true, false, eqb-true, eq-eqb, List, [], ◌∷◌, Some, add-zero, arith}
-use Rattle.std.proofs.Math.Nat.{mod-add-mod}
+use Rattle.std.proofs.Common.{◌≡◌, ◌≢◌, refl, sym, ap, subst, ◌∙◌, ℕ, ◌+◌, ◌-◌, ◌%◌, ◌*◌, ◌/◌, ◌^◌, ◌<◌, ◌⊎◌, inl, inr, Bool, true, false, eqb-true, eq-eqb, List, [], ◌∷◌, ◌++◌, append_assoc, Some, add-zero, min, ◌≤◌, arith}
+use Rattle.std.proofs.Math.Nat.{mod-add-mod, mod-eq_of_lt, mod_self}
 use Rattle.tensor_words.specs.Spaces.{size}
 use Rattle.tensor_words.specs.Worlds.{WorldType, IsWorld}
 use Rattle.graph_history.specs.declared.event.Origin.{Origin}
 use Rattle.graph_history.specs.declared.event.Act.{Act}
 use Rattle.graph_history.specs.declared.event.Act.TheVariants.{Met, Missed, Spent}
+use Rattle.graph_history.specs.declared.event.Event.{Event}
 use Rattle.graph_history.specs.declared.view.Dues.{Dues}
 use Rattle.graph_history.specs.declared.view.View.{View}
-use Rattle.graph_history.specs.History.{State, state_of, vertex_at, HasVertex, IsNew, IsOrigin}
+use Rattle.graph_history.specs.History.{State, state_of, vertex_at, HasVertex, IsNew, IsOrigin, calls}
 use Rattle.graph_rule.specs.Layout.{code_word, home, cell_on, is_last, IsSearched}
 use Rattle.graph_rule.specs.Told.{Advances, Watched, cell_word, roomed_acts, claimed_acts, claimed_dues}
 use Rattle.graph_rule.specs.Values.{SeatValue, GraphValue, Belongs}
 use Rattle.graph_rule.proofs.CellSteps.{origin_stays}
 use Rattle.graph_rule.proofs.Composing.{watched_none, then_step, then_watch, watched_stays, advanced_stays, step_state}
+use Rattle.graph_rule.proofs.Views.{calls-append}
 use Rattle.graph_rule.proofs.Paths.{one_place, word_other, searched_stays}
-use Rattle.intern_cells.specs.Search.{IsAt}
+use Rattle.intern_cells.specs.Search.{IsAt, Searching, Probed}
+use Rattle.intern_cells.specs.declared.entries.Probe.{Probe}
+use Rattle.intern_cells.specs.declared.entries.Probe.TheVariants.{Found, Room, NoRoom}
 use Rattle.intern_cells.proofs.Acts.{roomed_last, claimed_on, dues_left}
-
--- the search of one call so far: no event yet
-pub record Searching (first now : SeatValue) (x k c : ℕ) : Type 0 where
-  pub table : now.table ≡ first.table
-  pub watched : Watched first.view now.view
-  pub at : IsAt now.view x k c
 
 -- where it begins
 below_split : (j m : ℕ) → j < m + 1 → (j < m) ⊎ (j ≡ m)
@@ -209,6 +207,55 @@ ends_full first now x k c s next n (y, there, other) last a word =
     let is : n ≡ y + 1 = word ∙ ap code_word later in
     let acts = roomed_last now.view.world c x n (λ z. omega arith) (λ e. other (omega arith)) last in
     ends first now x k c s next.view (Spent x ∷ []) (λ (d : Dues). d) (subst (λ (l : List Act). Advances now.view next.view l now.view.dues) acts a)
+
+-- the same search at a cell that is said in another way
+pub moved_to : (first now : SeatValue) (x k c d : ℕ) → Searching first now x k c → c ≡ d → Searching first now x k d
+moved_to first now x k c d s same = subst (λ (e : ℕ). Searching first now x k e) same s
+
+-- a search that goes on from where another one is
+pub from_here : (s : SeatValue) (x k c : ℕ) → IsAt s.view x k c → Searching s s x k c
+from_here s x k c at = record { table = refl; watched = watched_none s.view; at = at }
+
+calls_both : (f g : List Event) (n : ℕ) → calls f n ≡ [] → calls g n ≡ [] → calls (f ++ g) n ≡ []
+calls_both f g n p q = calls-append f g n ∙ ap (λ (l : List Event). l ++ calls g n) p ∙ q
+
+watched_then : (u v w : View) → Watched u v → Watched v w → Watched u w
+watched_then u v w s t = record {
+  more = s.more ++ t.more;
+  is = t.is ∙ ap (λ (z : View). record z { front = z.front ++ t.more }) s.is ∙ ap (λ (h : List Event). record u { front = h }) (append_assoc u.front s.more t.more);
+  quiet = calls_both s.more t.more u.number s.quiet (subst (λ (n : ℕ). calls t.more n ≡ []) (ap (λ (z : View). z.number) s.is) t.quiet);
+  alone = λ all. let before = s.alone all in let here = t.alone (ap (λ (z : View). z.stake) s.is ∙ all) in ap (λ (l : List Event). l ++ t.more) before ∙ here;
+}
+
+module _ (first mid : SeatValue) (x j d : ℕ) (s : Searching first mid x j d) where
+  pub searching_then : (now : SeatValue) (k c : ℕ) → Searching mid now x k c → Searching first now x k c
+  searching_then now k c t = record { table = t.table ∙ s.table; watched = watched_then first.view mid.view now.view s.watched t.watched; at = t.at }
+
+  pub probed_then : (w : View) (probe : Probe) → Probed mid.view w x probe → Probed first.view w x probe
+  probed_then w (Found c) a = ends first mid x j d s w (Met c x ∷ []) (λ (e : Dues). e) a
+  probed_then w NoRoom a = ends first mid x j d s w (Spent x ∷ []) (λ (e : Dues). e) a
+  probed_then w (Room c k) (seen, at) = (watched_then first.view mid.view w s.watched seen, at)
+
+-- the two straight stretches of a path, but for its last cell
+mod_whole : (a n : ℕ) → a ≡ n → a % n ≡ 0
+mod_whole a n is = ap (λ (b : ℕ). b % n) is ∙ mod_self n
+
+pub straight_cell : (c j n : ℕ) → c + j < n → (c + j) % n ≡ c + j
+straight_cell c j n less = mod-eq_of_lt less
+
+zero_or : (n : ℕ) → (n ≡ 0) ⊎ (0 < n)
+zero_or n = grind arith
+
+module _ (start cells turn : ℕ) (below : start < cells) (is : turn ≡ min (cells - start) (cells - 1)) where
+  pub turn_within : start + turn ≤ cells
+  turn_within = omega arith
+
+  pub next_straight : (start + turn) % cells + (cells - 1 - turn) < cells
+  next_straight = by (zero_or start)
+    where
+      by : (start ≡ 0) ⊎ (0 < start) → (start + turn) % cells + (cells - 1 - turn) < cells
+      by (inl none) = let same = straight_cell start turn cells (omega arith) in omega arith
+      by (inr some) = let same = mod_whole (start + turn) cells (omega arith) in omega arith
 
 -- what a deciding event shows
 pub missed_new : (v w : View) (x : ℕ) (d : Dues) → Advances v w (Missed x ∷ []) d → IsNew (state_of w.front) x

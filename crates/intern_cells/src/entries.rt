@@ -1,14 +1,14 @@
 //! Putting words in.
-ghost use Rattle.std.specs.Prelude.{◌≡◌, ◌<◌};
+ghost use Rattle.std.specs.Prelude.{◌≡◌, ◌<◌, ◌≤◌, ◌+◌, ◌-◌, ◌%◌};
 ghost use Rattle.tensor_words.specs.Spaces.{size};
 ghost use Rattle.graph_history.specs.History.{state_of, IsOrigin};
 ghost use Rattle.graph_rule.specs.Values.{Belongs};
 ghost use Rattle.intern_cells.specs.Entries.{Enters, IsAddedIn};
-ghost use Rattle.intern_cells.specs.Search.{IsAt, Probed, Claimed};
+ghost use Rattle.intern_cells.specs.Search.{Confirmed, IsAt, Looked, Probed, Claimed};
 
-use crate::path::{following, home};
+use crate::path::{following, home, in_round};
 use graph_history::{Added, Origin};
-use graph_rule::{Graph, Seat, claim, owe, release, seek_room};
+use graph_rule::{Graph, Seat, claim, confirm, owe, release, seek_room};
 
 /// What a look along the path of a code found.
 #[derive(Clone, Copy)]
@@ -54,7 +54,38 @@ pub fn add(graph: &Graph, seat: &mut Seat, code: u64, origin: Origin) -> Added
     }
 }
 
-/// Looks along the path, up to the code, an empty cell or the end.
+/// Puts in a word as `add` does, but looks first at one cell where the word may be. Any number does: it is only where the
+/// look begins.
+pub fn add_at(graph: &Graph, seat: &mut Seat, code: u64, origin: Origin, near: u32) -> Added
+    requires belongs { Belongs seat.old graph.now }
+    requires origin { IsOrigin seat.old.view.world (state_of seat.old.view.front) code origin }
+    requires pledge { seat.old.view.dues.pledge ≡ 0 }
+    ensures table { seat.new.table ≡ seat.old.table }
+    ensures entry { Enters seat.old.view seat.new.view code origin result }
+    ensures exact { IsAddedIn seat.new.view.world (state_of seat.new.view.front) code result }
+{
+    let _stake = seat.stake();
+    if stands_at(graph, seat, near, code) {
+        return Added::Old { cell: near };
+    }
+    add(graph, seat, code, origin)
+}
+
+/// Whether the code stands in this cell; no code does in a cell past the last.
+fn stands_at(graph: &Graph, seat: &mut Seat, cell: u32, code: u64) -> bool
+    requires belongs { Belongs seat.old graph.now }
+    requires word { code < size graph.now.world.space }
+    ensures table { seat.new.table ≡ seat.old.table }
+    ensures told { Confirmed seat.old.view seat.new.view cell code result }
+{
+    if cell >= graph.world().cells() {
+        return false;
+    }
+    confirm(graph, seat, cell, code)
+}
+
+/// Looks along the path, up to the code, an empty cell or the end. The path but for its last cell is two straight
+/// stretches: from the home to the last of all cells, and from the first of them on.
 fn look_for_room(graph: &Graph, seat: &mut Seat, code: u64, origin: Origin) -> Probe
     requires belongs { Belongs seat.old graph.now }
     requires word { code < size graph.now.world.space }
@@ -63,21 +94,78 @@ fn look_for_room(graph: &Graph, seat: &mut Seat, code: u64, origin: Origin) -> P
     ensures told { Probed seat.old.view seat.new.view code result }
 {
     let cells = graph.world().cells();
-    let mut cell = home(code, cells);
-    for step in 0..cells {
-        let word = seek_room(graph, seat, cell, code, origin);
+    let start = home(code, cells);
+    let last = cells - 1;
+    let turn = u32::min(cells - start, last);
+    if let Some(probe) = look_between(graph, seat, code, origin, start, 0, turn) {
+        return probe;
+    }
+    let next = in_round(start + turn, cells);
+    if let Some(probe) = look_between(graph, seat, code, origin, next, turn, last) {
+        return probe;
+    }
+    look_at_last(graph, seat, code, origin, next + (last - turn), last)
+}
+
+/// Looks along a straight stretch of the path, which has these steps and begins at this cell, up to the code or an empty
+/// cell. `None` where all its cells have other codes.
+fn look_between(
+    graph: &Graph,
+    seat: &mut Seat,
+    code: u64,
+    origin: Origin,
+    cell: u32,
+    from: u32,
+    to: u32,
+) -> Option<Probe>
+    requires belongs { Belongs seat.old graph.now }
+    requires word { code < size graph.now.world.space }
+    requires origin { IsOrigin seat.old.view.world (state_of seat.old.view.front) code origin }
+    requires at { IsAt seat.old.view code from cell }
+    requires steps { (from ≤ to) × (to < graph.now.world.cells) }
+    requires straight { cell + (to - from) ≤ graph.now.world.cells }
+    ensures table { seat.new.table ≡ seat.old.table }
+    ensures told { Looked seat.old seat.new code to ((cell + (to - from)) % graph.now.world.cells) result }
+{
+    let _world = graph.world();
+    for step in from..to {
+        let at = cell + (step - from);
+        let word = seek_room(graph, seat, at, code, origin);
         if word == 0 {
-            return Probe::Room { cell, step };
+            return Some(Probe::Room { cell: at, step });
         }
         if word == code + 1 {
-            return Probe::Found { cell };
+            return Some(Probe::Found { cell: at });
         }
-        if step + 1 == cells {
-            return Probe::NoRoom;
-        }
-        cell = following(cell, cells);
     }
-    unreachable!()
+    None
+}
+
+/// Looks at the last cell of the path.
+fn look_at_last(
+    graph: &Graph,
+    seat: &mut Seat,
+    code: u64,
+    origin: Origin,
+    cell: u32,
+    last: u32,
+) -> Probe
+    requires belongs { Belongs seat.old graph.now }
+    requires word { code < size graph.now.world.space }
+    requires origin { IsOrigin seat.old.view.world (state_of seat.old.view.front) code origin }
+    requires at { IsAt seat.old.view code last cell }
+    requires last { last + 1 ≡ graph.now.world.cells }
+    ensures table { seat.new.table ≡ seat.old.table }
+    ensures told { Probed seat.old.view seat.new.view code result }
+{
+    let word = seek_room(graph, seat, cell, code, origin);
+    if word == 0 {
+        Probe::Room { cell, step: last }
+    } else if word == code + 1 {
+        Probe::Found { cell }
+    } else {
+        Probe::NoRoom
+    }
 }
 
 /// Goes on along the path from a cell that was empty, and takes the first cell that still is.

@@ -2,8 +2,9 @@
 //!
 //! Each call makes atomic steps on one table and waits for nobody. `add` promises an entry: at most one of all callers
 //! that add one word is told that it is new, whoever is not told `Full` is told the same cell, and `Full` comes exactly
-//! where every cell is taken by another word. `find` answers `None` exactly where the word is no vertex in the front
-//! that it leaves. The code probes first and owes a debt only at an empty cell; no clause says so.
+//! where every cell is taken by another word. `add_at` promises the same, and looks first at one cell where the word may
+//! be. `find` answers `None` exactly where the word is no vertex in the front that it leaves. The code probes first and
+//! owes a debt only at an empty cell; no clause says so.
 //!
 //! It stands on the step calls of graph_rule. Read specs/Entries.antt first, then `entries`.
 #![tactic(auto)]
@@ -16,5 +17,5 @@ mod path;
 #[cfg(test)]
 mod tests;
 
-pub use entries::add;
+pub use entries::{add, add_at};
 pub use look_ups::{find, word};

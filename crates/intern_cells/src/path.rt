@@ -23,3 +23,12 @@ pub(crate) fn following(cell: u32, cells: u32) -> u32
 {
     if cell + 1 == cells { 0 } else { cell + 1 }
 }
+
+/// The cell with this number, in a round.
+pub(crate) fn in_round(number: u32, cells: u32) -> u32
+    requires within { number ≤ cells }
+    requires some { 0 < cells }
+    ensures { result ≡ number % cells }
+{
+    if number == cells { 0 } else { number }
+}

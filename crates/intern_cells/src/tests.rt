@@ -39,6 +39,19 @@ fn add_root(graph: &Graph, seat: &mut Seat, code: u64) -> Option<Added>
     Some(add(graph, seat, code, Origin::Root))
 }
 
+/// The same with a look at one cell first.
+fn add_root_at(graph: &Graph, seat: &mut Seat, code: u64, near: u32) -> Option<Added>
+    requires belongs { Belongs seat.old graph.now }
+    requires pledge { seat.old.view.dues.pledge ≡ 0 }
+    ensures belongs { Belongs seat.new graph.now }
+    ensures pledge { seat.new.view.dues.pledge ≡ 0 }
+{
+    if !graph.world().has_root(code) {
+        return None;
+    }
+    Some(add_at(graph, seat, code, Origin::Root, near))
+}
+
 fn find_code(graph: &Graph, seat: &mut Seat, code: u64) -> Option<Option<u32>>
     requires belongs { Belongs seat.old graph.now }
     requires pledge { seat.old.view.dues.pledge ≡ 0 }
@@ -81,6 +94,29 @@ fn one_cell(rt: HostRuntime) -> Result<(), NoMemory> {
     assert_eq!(rt; find_code(&graph, &mut seat, 0), Some(Some(0)));
     assert_eq!(rt; word_at(&graph, &mut seat, 0), Some(Some(0)));
     assert_eq!(rt; tally(&graph, &mut seat), 1);
+    Ok(())
+}
+
+/// A right place, one that is empty, one past the last cell, and one with another word; and a new word at a wrong place.
+#[test]
+fn near_or_not(rt: HostRuntime) -> Result<(), NoMemory> {
+    let world = world(rt.alloc(), 4)?.expect(&rt, "a world of four cells");
+    let (graph, mut seat) = Graph::new(rt.alloc(), world)?;
+    let Some(Added::New { cell }) = add_root_at(&graph, &mut seat, 2, 3) else {
+        panic!(rt; "the word is new");
+    };
+    let old = Some(Added::Old { cell });
+    assert_eq!(rt; add_root_at(&graph, &mut seat, 2, cell), old);
+    assert_eq!(rt; add_root_at(&graph, &mut seat, 2, cell ^ 1), old);
+    assert_eq!(rt; add_root_at(&graph, &mut seat, 2, 4), old);
+    assert_eq!(rt; add_root_at(&graph, &mut seat, 2, u32::MAX), old);
+    let Some(Added::New { cell: other }) = add_root_at(&graph, &mut seat, 0, cell) else {
+        panic!(rt; "the other word is new");
+    };
+    assert!(rt; other != cell);
+    assert_eq!(rt; add_root_at(&graph, &mut seat, 2, other), old);
+    assert_eq!(rt; find_code(&graph, &mut seat, 0), Some(Some(other)));
+    assert_eq!(rt; tally(&graph, &mut seat), 2);
     Ok(())
 }
 

@@ -1,46 +1,47 @@
 -- The next cell is a vertex and unpaid; it is drawn and paid for.
-use Rattle.std.proofs.Common.{ℕ, refl, sym, ap, subst, ◌+◌, ◌≤◌, take, ◌++◌, ◌∷◌, [], List, Some, None, Result, length, Contains, get_or, arith}
+use Rattle.std.proofs.Common.{ℕ, sym, ap, subst, ◌+◌, ◌≤◌, take, ◌++◌, ◌∷◌, [], List, Some, None, Result, length, Contains, get_or, arith}
 use Rattle.std.proofs.lemmas.List.{take_more, length-take}
 use Rattle.graph_history.specs.History.{state_of, HasSome}
 use Rattle.graph_rule.proofs.Views.{some_prefix}
 use Rattle.crystal_growers.specs.declared.rows.Spent.{Spent}
+use Rattle.crystal_growers.specs.SharedDesks.{standing_of}
 use Rattle.crystal_growers.specs.Expanding.{Expanded}
 use Rattle.crystal_growers.specs.Growth.{Expansions}
-use Rattle.crystal_growers.proofs.DrawnCells.{only, expansions_none, expansions_one, expansions_full, expansions_then, expansions_within, pay_there}
+use Rattle.crystal_growers.proofs.DrawnCells.{only, expansions_one, expansions_full, expansions_then, expansions_within, pay_there}
 use Rattle.crystal_growers.proofs.growth.expand_all.Goals as goal
 
 pub cells-init : goal.cells-init
-cells-init g c = expansions_none (g.D.Desk.standing c.args.desk.now) [] refl c.space-space.ensures.legal
+cells-init c = c.read_ahead.ensures
 
-pub expand-requires-clause-there : goal.expand-requires-clause-there
-expand-requires-clause-there g c =
-    some_prefix (g.D.Desk.standing c.args.desk.now).front (g.D.Desk.standing c.cells.desk).front (get_or c.args.cells.now c.cells.cell-index 0) (c.cells.invariant.goes.grows.more, c.cells.invariant.goes.grows.is)
+pub expand_both-requires-clause-there : goal.expand_both-requires-clause-there
+expand_both-requires-clause-there c =
+    some_prefix (standing_of c.args.desk.now).front (standing_of c.cells.desk).front (get_or c.args.cells.now c.cells.cell-index 0) (c.cells.invariant.goes.grows.more, c.cells.invariant.goes.grows.is)
     (c.requires.there c.cells.cell-index 0 c.cells-test.true)
 
-pub pay-requires-clause-unpaid : goal.pay-requires-clause-unpaid
-pay-requires-clause-unpaid g c =
-    pay_there (g.D.Desk.standing c.args.desk.now) (g.D.Desk.standing c.cells.desk) (g.D.Desk.standing c.expand.new.desk) c.args.cells.now c.cells.cell-index c.requires.once c.cells-test.true c.cells.invariant
-    (subst (λ (r : Result (Unit {0}) Spent). Expanded (g.D.Desk.standing c.cells.desk) (g.D.Desk.standing c.expand.new.desk) (get_or c.args.cells.now c.cells.cell-index 0) r) c.in-Ok.is c.expand.ensures)
+pub settle-requires-clause-unpaid : goal.settle-requires-clause-unpaid
+settle-requires-clause-unpaid c =
+    pay_there (standing_of c.args.desk.now) (standing_of c.cells.desk) (standing_of c.expand_both.new.desk) c.args.cells.now c.cells.cell-index c.requires.once c.cells-test.true c.cells.invariant
+    (subst (λ (r : Result (Unit {0}) Spent). Expanded (standing_of c.cells.desk) (standing_of c.expand_both.new.desk) (get_or c.args.cells.now c.cells.cell-index 0) r) c.in-Ok.is c.expand_both.ensures)
     c.requires.unpaid
 
 pub returns-in-Err : goal.returns-in-Err
-returns-in-Err g c =
+returns-in-Err c =
     let cell : ℕ = get_or c.args.cells.now c.cells.cell-index 0 in
-    let there : (d : ℕ) → Contains (cell ∷ []) d → HasSome (state_of (g.D.Desk.standing c.args.desk.now).front) d =
-    λ d h. subst (λ (k : ℕ). HasSome (state_of (g.D.Desk.standing c.args.desk.now).front) k) (only cell d h) (c.requires.there c.cells.cell-index 0 c.cells-test.true) in
-    let drawn = subst (λ (r : Result (Unit {0}) Spent). Expanded (g.D.Desk.standing c.cells.desk) (g.D.Desk.standing c.expand.new.desk) cell r) c.in-Err.is c.expand.ensures in
+    let there : (d : ℕ) → Contains (cell ∷ []) d → HasSome (state_of (standing_of c.args.desk.now).front) d =
+    λ d h. subst (λ (k : ℕ). HasSome (state_of (standing_of c.args.desk.now).front) k) (only cell d h) (c.requires.there c.cells.cell-index 0 c.cells-test.true) in
+    let drawn = subst (λ (r : Result (Unit {0}) Spent). Expanded (standing_of c.cells.desk) (standing_of c.expand_both.new.desk) cell r) c.in-Err.is c.expand_both.ensures in
     let within : length (take c.cells.cell-index c.args.cells.now ++ cell ∷ []) ≤ length c.args.cells.now =
     let e = ap length (take_more c.args.cells.now c.cells.cell-index 0 c.cells-test.true) in let l = length-take (c.cells.cell-index + 1) c.args.cells.now in let b = c.cells-test.true in omega arith in
-    expansions_within (g.D.Desk.standing c.args.desk.now) (g.D.Desk.standing c.expand.new.desk) (take c.cells.cell-index c.args.cells.now ++ cell ∷ []) c.args.cells.now c.in-Err.field-0.code within
-    (expansions_then (g.D.Desk.standing c.args.desk.now) (g.D.Desk.standing c.cells.desk) (g.D.Desk.standing c.expand.new.desk) (take c.cells.cell-index c.args.cells.now) (cell ∷ []) (Some c.in-Err.field-0.code)
-    c.cells.invariant (expansions_full (g.D.Desk.standing c.cells.desk) (g.D.Desk.standing c.expand.new.desk) cell c.in-Err.field-0 drawn) there)
+    expansions_within (standing_of c.args.desk.now) (standing_of c.expand_both.new.desk) (take c.cells.cell-index c.args.cells.now ++ cell ∷ []) c.args.cells.now c.in-Err.field-0.code within
+    (expansions_then (standing_of c.args.desk.now) (standing_of c.cells.desk) (standing_of c.expand_both.new.desk) (take c.cells.cell-index c.args.cells.now) (cell ∷ []) (Some c.in-Err.field-0.code)
+    c.cells.invariant (expansions_full (standing_of c.cells.desk) (standing_of c.expand_both.new.desk) cell c.in-Err.field-0 drawn) there)
 
 pub cells-preserved : goal.cells-preserved
-cells-preserved g c =
+cells-preserved c =
     let cell : ℕ = get_or c.args.cells.now c.cells.cell-index 0 in
-    let there : (d : ℕ) → Contains (cell ∷ []) d → HasSome (state_of (g.D.Desk.standing c.args.desk.now).front) d =
-    λ d h. subst (λ (k : ℕ). HasSome (state_of (g.D.Desk.standing c.args.desk.now).front) k) (only cell d h) (c.requires.there c.cells.cell-index 0 c.cells-test.true) in
-    let drawn = subst (λ (r : Result (Unit {0}) Spent). Expanded (g.D.Desk.standing c.cells.desk) (g.D.Desk.standing c.expand.new.desk) cell r) c.in-Ok.is c.expand.ensures in
-    subst (λ (l : List ℕ). Expansions (g.D.Desk.standing c.args.desk.now) (g.D.Desk.standing c.pay.new.self) l None) (sym (take_more c.args.cells.now c.cells.cell-index 0 c.cells-test.true))
-    (expansions_then (g.D.Desk.standing c.args.desk.now) (g.D.Desk.standing c.cells.desk) (g.D.Desk.standing c.pay.new.self) (take c.cells.cell-index c.args.cells.now) (cell ∷ []) None
-    c.cells.invariant (expansions_one (g.D.Desk.standing c.cells.desk) (g.D.Desk.standing c.expand.new.desk) (g.D.Desk.standing c.pay.new.self) cell drawn c.pay.ensures) there)
+    let there : (d : ℕ) → Contains (cell ∷ []) d → HasSome (state_of (standing_of c.args.desk.now).front) d =
+    λ d h. subst (λ (k : ℕ). HasSome (state_of (standing_of c.args.desk.now).front) k) (only cell d h) (c.requires.there c.cells.cell-index 0 c.cells-test.true) in
+    let drawn = subst (λ (r : Result (Unit {0}) Spent). Expanded (standing_of c.cells.desk) (standing_of c.expand_both.new.desk) cell r) c.in-Ok.is c.expand_both.ensures in
+    subst (λ (l : List ℕ). Expansions (standing_of c.args.desk.now) (standing_of c.settle.new.self) l None) (sym (take_more c.args.cells.now c.cells.cell-index 0 c.cells-test.true))
+    (expansions_then (standing_of c.args.desk.now) (standing_of c.cells.desk) (standing_of c.settle.new.self) (take c.cells.cell-index c.args.cells.now) (cell ∷ []) None
+    c.cells.invariant (expansions_one (standing_of c.cells.desk) (standing_of c.expand_both.new.desk) (standing_of c.settle.new.self) cell drawn c.settle.ensures) there)

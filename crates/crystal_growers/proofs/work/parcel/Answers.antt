@@ -14,6 +14,6 @@ expand_all-full-requires-clause-unpaid c = subst (λ (d : DeskValue). (x : ℕ) 
 
 pub returns : goal.returns
 returns c =
-    drawn_by c.args.seat c.into_parts-seat.result.0 c.expand_all-full.new.desk (length c.args.cells.now * (2 * c.rank-rank.result)) c.args.cells.now c.into_parts-seat.result.1.items c.expand_all-full.result
+    drawn_by c.args.seat c.into_parts_with_hints-seat.result.0 c.expand_all-full.new.desk (length c.args.cells.now * (2 * c.rank-rank.result)) c.args.cells.now c.into_parts_with_hints-seat.result.1.items c.expand_all-full.result
     (subst (λ (d : DeskValue). Expansions (standing_of d) (standing_of c.expand_all-full.new.desk) c.args.cells.now c.expand_all-full.result) c.in-Ok.ensures c.expand_all-full.ensures)
-    c.into_parts-seat.ensures.seat c.into_parts-seat.ensures.worked
+    c.into_parts_with_hints-seat.ensures.seat c.into_parts_with_hints-seat.ensures.worked

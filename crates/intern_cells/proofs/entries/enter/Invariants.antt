@@ -1,4 +1,4 @@
-use Rattle.intern_cells.proofs.Searching.{Searching}
+use Rattle.intern_cells.specs.Search.{Searching}
 use Rattle.intern_cells.proofs.entries.enter.Given as goal
 
 abbrev pub invariant-loop-step : goal.invariant-loop-step

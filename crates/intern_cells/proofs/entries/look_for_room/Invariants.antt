@@ -1,5 +1,0 @@
-use Rattle.intern_cells.proofs.Searching.{Searching}
-use Rattle.intern_cells.proofs.entries.look_for_room.Given as goal
-
-abbrev pub invariant-loop-step : goal.invariant-loop-step
-invariant-loop-step l = Searching l.fn.seat l.seat l.code l.step l.cell
