@@ -1,11 +1,10 @@
 -- What each mode answers, case by case.
-use Rattle.std.proofs.Common.{◌≡◌, ◌∙◌, ◌<◌, ◌≤◌, ℕ, List, [], length, slice_index, IfOk, Result, Ok, Err, refl, sym, ap, ap₂, subst}
-use Rattle.tensor_words.specs.Reach.{Outnumber}
+use Rattle.std.proofs.Common.{◌≡◌, ◌∙◌, ◌<◌, ◌≤◌, ℕ, List, [], length, slice_index, IfOk, Option, Some, None, Result, Ok, Err, sym, ap, subst}
 use Rattle.canonical_graph.specs.Graphs.{FinishedType}
 use Rattle.graph_history.specs.declared.event.Event.{Event}
 use Rattle.job_text.specs.declared.jobs.Job.{Job}
 use Rattle.session_desk.specs.declared.reply.Reply.{Reply}
-use Rattle.answer_text.specs.Texts.{job_refusal, words_refusal}
+use Rattle.answer_text.specs.Texts.{job_refusal}
 use Rattle.ask_answers.specs.Answers.{AreAnswers}
 use Rattle.answer_text.specs.Texts.{full_line}
 use Rattle.answer_text.specs.Modes.{differs_line, same_line}
@@ -20,7 +19,8 @@ use Rattle.crystal_match.specs.Telling.{IsFirstTelling, PointedType, pointed}
 use Rattle.crystal_characters.specs.Items.{items_of}
 use Rattle.command_words.specs.declared.settings.Relabelling.{Relabelling}
 use Rattle.crystal_shell.specs.Statistics.{Reporter, statistics_text}
-use Rattle.crystal_shell.specs.Histories.{IsGraph, IsHistory}
+use Rattle.graph_runs.specs.Runs.{Ends, Holds, IsHistory}
+use Rattle.graph_runs.specs.declared.run.Held.{Held}
 use Rattle.crystal_shell.specs.Answers.{Compares, Counts, Grows, census_limit, census_text, count_full, count_listed, full_census_text, full_text, grow_full, grow_refused, grow_whole, marked, match_differ, match_few, match_full, match_refused, match_same, match_text, relabel_of, whole_text}
 use Rattle.crystal_shell.specs.declared.inputs.Input.{Input}
 use Rattle.crystal_shell.specs.declared.inputs.Input.TheVariants.{Refused, Taken}
@@ -30,13 +30,13 @@ use Rattle.crystal_shell.specs.declared.outcomes.Status.TheVariants.{Done, Full,
 
 -- a refused job
 abbrev pub IsRefusal : ℕ → ℕ → Answer → Type 0
-IsRefusal line fault a = (a.status ≡ JobRefused) × (a.front ≡ []) × (a.text.items ≡ job_refusal line fault)
+IsRefusal line fault a = (a.status ≡ JobRefused) × (a.front ≡ []) × (a.held ≡ None) × (a.text.items ≡ job_refusal line fault)
 
-grows_refused : (reporters : List Reporter) (places : List ℕ) (line fault : ℕ) (s : Status) (f : List Event) (x : List ℕ) → s ≡ JobRefused → f ≡ [] → x ≡ job_refusal line fault
-    → Grows reporters places (Refused line fault) s f x
-grows_refused reporters places line fault s f x status front text =
-    let base : Grows reporters places (Refused line fault) JobRefused [] (job_refusal line fault) = grow_refused line fault in
-    rw (status, front, text) base
+grows_refused : (reporters : List Reporter) (places : List ℕ) (line fault : ℕ) (s : Status) (f : List Event) (k : Option Held) (x : List ℕ) → s ≡ JobRefused → f ≡ [] → k ≡ None
+    → x ≡ job_refusal line fault → Grows reporters places (Refused line fault) s f k x
+grows_refused reporters places line fault s f k x status front none text =
+    let base : Grows reporters places (Refused line fault) JobRefused [] None (job_refusal line fault) = grow_refused line fault in
+    rw (status, front, none, text) base
 
 compares_refused : (r : Relabelling) (line fault : ℕ) (s : Status) (x : List ℕ) → s ≡ JobRefused → x ≡ job_refusal line fault → Compares r (Refused line fault) s x
 compares_refused r line fault s x status text =
@@ -49,52 +49,54 @@ compares_few r job s x few status text =
     rw (status, text) base
 
 pub refusal_grows : {E : Type 0} (reporters : List Reporter) (places : List ℕ) (input : Input) (line fault : ℕ) (r : Result Answer E) → input ≡ Refused line fault
-    → IfOk r (IsRefusal line fault) → IfOk r (λ a. Grows reporters places input a.status a.front a.text.items)
+    → IfOk r (IsRefusal line fault) → IfOk r (λ a. Grows reporters places input a.status a.front a.held a.text.items)
 refusal_grows reporters places input line fault (Err e) is refused = tt
 refusal_grows reporters places input line fault (Ok a) is refused =
-    subst (λ (i : Input). Grows reporters places i a.status a.front a.text.items) (sym is)
-    (grows_refused reporters places line fault a.status a.front a.text.items refused.0 refused.1 refused.2)
+    subst (λ (i : Input). Grows reporters places i a.status a.front a.held a.text.items) (sym is)
+    (grows_refused reporters places line fault a.status a.front a.held a.text.items refused.0 refused.1 refused.2 refused.3)
 
 pub refusal_compares : {E : Type 0} (relabelling : Relabelling) (input : Input) (line fault : ℕ) (r : Result Answer E) → input ≡ Refused line fault
     → IfOk r (IsRefusal line fault) → IfOk r (λ a. Compares relabelling input a.status a.text.items)
 refusal_compares relabelling input line fault (Err e) is refused = tt
 refusal_compares relabelling input line fault (Ok a) is refused =
     subst (λ (i : Input). Compares relabelling i a.status a.text.items) (sym is)
-    (compares_refused relabelling line fault a.status a.text.items refused.0 refused.2)
+    (compares_refused relabelling line fault a.status a.text.items refused.0 refused.3)
 
 pub few_compares : {E : Type 0} (relabelling : Relabelling) (job : Job) (r : Result Answer E) → length job.starts < 2
     → IfOk r (IsRefusal 0 16) → IfOk r (λ a. Compares relabelling (Taken job) a.status a.text.items)
 few_compares relabelling job (Err e) few refused = tt
-few_compares relabelling job (Ok a) few refused = compares_few relabelling job a.status a.text.items few refused.0 refused.2
+few_compares relabelling job (Ok a) few refused = compares_few relabelling job a.status a.text.items few refused.0 refused.3
 
-pub refusal_front : {E : Type 0} (line fault : ℕ) (r : Result Answer E) → IfOk r (IsRefusal line fault) → IfOk r (λ a. a.front ≡ [])
-refusal_front line fault (Err e) refused = tt
-refusal_front line fault (Ok a) refused = refused.1
+pub refusal_unkept : {E : Type 0} (line fault : ℕ) (r : Result Answer E) → IfOk r (IsRefusal line fault) → IfOk r (λ a. (a.front ≡ []) × (a.held ≡ None))
+refusal_unkept line fault (Err e) refused = tt
+refusal_unkept line fault (Ok a) refused = (refused.1, refused.2)
 
 pub job_grows : {E : Type 0} (reporters : List Reporter) (places : List ℕ) (input : Input) (job : Job) (r : Result Answer E) → input ≡ Taken job
-    → IfOk r (λ a. Grows reporters places (Taken job) a.status a.front a.text.items) → IfOk r (λ a. Grows reporters places input a.status a.front a.text.items)
+    → IfOk r (λ a. Grows reporters places (Taken job) a.status a.front a.held a.text.items) → IfOk r (λ a. Grows reporters places input a.status a.front a.held a.text.items)
 job_grows reporters places input job r is grows =
-    subst (λ (i : Input). IfOk r (λ a. Grows reporters places i a.status a.front a.text.items)) (sym is) grows
+    subst (λ (i : Input). IfOk r (λ a. Grows reporters places i a.status a.front a.held a.text.items)) (sym is) grows
 
 pub job_compares : {E : Type 0} (relabelling : Relabelling) (input : Input) (job : Job) (r : Result Answer E) → input ≡ Taken job
     → IfOk r (λ a. Compares relabelling (Taken job) a.status a.text.items) → IfOk r (λ a. Compares relabelling input a.status a.text.items)
 job_compares relabelling input job r is compares =
     subst (λ (i : Input). IfOk r (λ a. Compares relabelling i a.status a.text.items)) (sym is) compares
 
-pub whole_grows : (reporters : List Reporter) (places : List ℕ) (job : Job) (f : FinishedType) (start : ℕ) (front : List Event) (told said : List (List Reply)) (text : List ℕ)
-    → IsHistory job.world job.starts job.scripts front told → IsGraph job.world f → start ≡ slice_index job.starts 0 → said ≡ told
+pub whole_grows : (reporters : List Reporter) (places : List ℕ) (job : Job) (f : FinishedType) (start : ℕ) (front : List Event) (held : Held) (told said : List (List Reply)) (text : List ℕ)
+    → IsHistory job.world job.starts job.scripts front told → Ends job.world front (Some f) → Holds job.world held.graph held.seat front
+    → start ≡ slice_index job.starts 0 → said ≡ told
     → ((answers : List ℕ) × AreAnswers f start job.asks answers × (text ≡ whole_text f said (statistics_text reporters places (items_of f)) answers))
-    → Grows reporters places (Taken job) Done front text
-whole_grows reporters places job f start front told said text history graph at same (answers, asked, shown) =
-    let base : Grows reporters places (Taken job) Done front (whole_text f told (statistics_text reporters places (items_of f)) answers) =
-    grow_whole job f front told answers history graph (subst (λ (c : ℕ). AreAnswers f c job.asks answers) at asked) in
+    → Grows reporters places (Taken job) Done front (Some held) text
+whole_grows reporters places job f start front held told said text history ends holds at same (answers, asked, shown) =
+    let base : Grows reporters places (Taken job) Done front (Some held) (whole_text f told (statistics_text reporters places (items_of f)) answers) =
+    grow_whole job f front held told answers history ends holds (subst (λ (c : ℕ). AreAnswers f c job.asks answers) at asked) in
     rw (shown, same) base
 
-pub full_grows : (reporters : List Reporter) (places : List ℕ) (job : Job) (space : SpaceType) (front : List Event) (told said : List (List Reply)) (text : List ℕ)
-    → IsHistory job.world job.starts job.scripts front told → Outnumber job.world → space ≡ job.world.space → said ≡ told → text ≡ full_text space said
-    → Grows reporters places (Taken job) Full front text
-full_grows reporters places job space front told said text history more here same shown =
-    let base : Grows reporters places (Taken job) Full front (full_text job.world.space told) = grow_full job front told history more in
+pub full_grows : (reporters : List Reporter) (places : List ℕ) (job : Job) (space : SpaceType) (front : List Event) (held : Held) (told said : List (List Reply)) (text : List ℕ)
+    → IsHistory job.world job.starts job.scripts front told → Ends job.world front None → Holds job.world held.graph held.seat front
+    → space ≡ job.world.space → said ≡ told → text ≡ full_text space said
+    → Grows reporters places (Taken job) Full front (Some held) text
+full_grows reporters places job space front held told said text history ends holds here same shown =
+    let base : Grows reporters places (Taken job) Full front (Some held) (full_text job.world.space told) = grow_full job front held told history ends holds in
     rw (shown, here, same) base
 
 -- ---- census

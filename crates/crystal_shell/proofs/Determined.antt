@@ -1,8 +1,7 @@
 -- The status of an answer is determined, and with its history its text.
-use Rattle.std.proofs.Common.{arith, ◌≡◌, refl, sym, ap, ap₂, ◌∙◌, subst, ℕ, ◌+◌, ◌<◌, ◌≤◌, List, [], length, get_or, slice_index, slice_index_or, Some, Contains}
+use Rattle.std.proofs.Common.{arith, ◌≡◌, refl, sym, ap, ap₂, ◌∙◌, subst, ℕ, ◌+◌, ◌<◌, List, [], length, get_or, slice_index, slice_index_or, Option, Some}
 use Rattle.std.proofs.lemmas.List.{ext_get_or}
 use Rattle.tensor_words.proofs.Walks.{component_list_is_unique}
-use Rattle.tensor_words.specs.Spaces.{SpaceType}
 use Rattle.tensor_words.specs.Worlds.{WorldType}
 use Rattle.canonical_graph.specs.Graphs.{FinishedType, finished_graph}
 use Rattle.graph_history.specs.declared.event.Event.{Event}
@@ -20,10 +19,11 @@ use Rattle.answer_text.specs.Modes.{differs_line, same_line}
 use Rattle.crystal_cartan.specs.declared.types.Arrow.{Arrow}
 use Rattle.crystal_shell.specs.Statistics.{Reporter, statistics_text}
 use Rattle.crystal_shell.specs.Inputs.{judged_input}
-use Rattle.crystal_shell.specs.Histories.{IsGraph, IsHistory}
-use Rattle.crystal_shell.specs.Answers.{Calls, Compares, Counts, Grows, call_census, call_grow, call_match, call_refused, census_limit, census_text, count_full, count_listed, full_text, grow_full, grow_refused, grow_whole, marked, match_differ, match_few, match_full, match_refused, match_same, match_text, whole_text}
+use Rattle.graph_runs.specs.Runs.{IsHistory}
+use Rattle.graph_runs.specs.declared.run.Held.{Held}
+use Rattle.crystal_shell.proofs.Histories.{IsGraph, ended_full, ended_graph}
+use Rattle.crystal_shell.specs.Answers.{Compares, Counts, Grows, call_census, call_grow, call_match, call_refused, census_limit, census_text, count_full, count_listed, full_text, grow_full, grow_refused, grow_whole, marked, match_differ, match_few, match_full, match_refused, match_same, match_text, whole_text}
 use Rattle.crystal_shell.specs.Laws.{AnswersAreDetermined}
-use Rattle.crystal_shell.specs.declared.hearing.Heard.{Heard}
 use Rattle.crystal_shell.specs.declared.inputs.Input.{Input}
 use Rattle.crystal_shell.specs.declared.outcomes.Status.{Status}
 use Rattle.crystal_shell.proofs.Verdicts.{list_unique, not_both, pairs_as_many, same_told, walk_unique}
@@ -56,17 +56,19 @@ whole_one reporters places job f g told others answers replies same alike p q =
     ap (λ (h : FinishedType). whole_text h told (statistics_text reporters places (items_of h)) answers) same
     ∙ ap₂ (λ (t : List (List Reply)) (a : List ℕ). whole_text g t (statistics_text reporters places (items_of g)) a) alike one
 
-grows_one : (reporters : List Reporter) (places : List ℕ) (input : Input) (s t : Status) (f g : List Event) (x y : List ℕ) → Grows reporters places input s f x
-    → Grows reporters places input t g y → AreOne s t f g x y
-grows_one reporters places input s t f g x y (grow_refused line fault) (grow_refused line' fault') = (refl, λ same. refl)
-grows_one reporters places input s t f g x y (grow_whole job a front told answers history graph asked) (grow_whole job' b front' told' answers' history' graph' asked') = (
+grows_one : (reporters : List Reporter) (places : List ℕ) (input : Input) (s t : Status) (f g : List Event) (k l : Option Held) (x y : List ℕ) → Grows reporters places input s f k x
+    → Grows reporters places input t g l y → AreOne s t f g x y
+grows_one reporters places input s t f g k l x y (grow_refused line fault) (grow_refused line' fault') = (refl, λ same. refl)
+grows_one reporters places input s t f g k l x y (grow_whole job a front held told answers history ends holds asked) (grow_whole job' b front' held' told' answers' history' ends' holds' asked') = (
   refl,
-  λ same. whole_one reporters places job a b told told' answers answers' (graphs_one job.world a b graph graph')
+  λ same. whole_one reporters places job a b told told' answers answers' (graphs_one job.world a b (ended_graph job.world front a ends) (ended_graph job.world front' b ends'))
       (replies_one job.world job.starts job.scripts front front' told told' same history history') asked asked',
 )
-grows_one reporters places input s t f g x y (grow_whole job a front told answers history graph asked) (grow_full job' front' told' history' more) = absurd (graph.fits more)
-grows_one reporters places input s t f g x y (grow_full job front told history more) (grow_whole job' b front' told' answers' history' graph' asked') = absurd (graph'.fits more)
-grows_one reporters places input s t f g x y (grow_full job front told history more) (grow_full job' front' told' history' more') =
+grows_one reporters places input s t f g k l x y (grow_whole job a front held told answers history ends holds asked) (grow_full job' front' held' told' history' ends' holds') =
+    absurd ((ended_graph job.world front a ends).fits (ended_full job.world front' ends'))
+grows_one reporters places input s t f g k l x y (grow_full job front held told history ends holds) (grow_whole job' b front' held' told' answers' history' ends' holds' asked') =
+    absurd ((ended_graph job.world front' b ends').fits (ended_full job.world front ends))
+grows_one reporters places input s t f g k l x y (grow_full job front held told history ends holds) (grow_full job' front' held' told' history' ends' holds') =
     (refl, λ same. ap (full_text job.world.space) (replies_one job.world job.starts job.scripts front front' told told' same history history'))
 
 counts_one : (shape : ShapeType) (s t : Status) (x y : List ℕ) → Counts shape s x → Counts shape t y → (s ≡ t) × (x ≡ y)
@@ -97,10 +99,10 @@ compares_one r input s t x y (match_full job two many) (match_differ job' walk t
 compares_one r input s t x y (match_full job two many) (match_full job' two' many') = (refl, refl)
 
 pub answers_are_determined : AnswersAreDetermined
-answers_are_determined reporters input heard s t f g x y (call_refused fault) (call_refused fault') = (refl, λ same. refl)
-answers_are_determined reporters input heard s t f g x y (call_grow places status front text grows) (call_grow places' status' front' text' grows') =
-    grows_one reporters places (judged_input input) status status' front front' text text' grows grows'
-answers_are_determined reporters input heard s t f g x y (call_census shape status text counts) (call_census shape' status' text' counts') =
+answers_are_determined reporters input heard s t f g k l x y (call_refused fault) (call_refused fault') = (refl, λ same. refl)
+answers_are_determined reporters input heard s t f g k l x y (call_grow growers places status front held text grows) (call_grow growers' places' status' front' held' text' grows') =
+    grows_one reporters places (judged_input input) status status' front front' held held' text text' grows grows'
+answers_are_determined reporters input heard s t f g k l x y (call_census shape status text counts) (call_census shape' status' text' counts') =
     let one = counts_one shape status status' text text' counts counts' in (one.0, λ same. one.1)
-answers_are_determined reporters input heard s t f g x y (call_match r status text compares) (call_match r' status' text' compares') =
+answers_are_determined reporters input heard s t f g k l x y (call_match r status text compares) (call_match r' status' text' compares') =
     let one = compares_one r (judged_input input) status status' text text' compares compares' in (one.0, λ same. one.1)

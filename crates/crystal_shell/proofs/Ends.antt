@@ -1,9 +1,10 @@
 -- How a run comes to its end.
-use Rattle.std.proofs.Common.{◌≡◌, ◌+◌, ◌≢◌, ◌≤◌, ◌⊎◌, ℕ, Bool, true, false, List, [], Option, Some, None, Result, Ok, Err, IsErrOf, inl, inr, refl, sym, ap, subst, ◌∙◌, true≢false, arith}
-use Rattle.std.specs.Io.KnownBytes.{Appends, Keeps}
+use Rattle.std.proofs.Common.{◌≡◌, ◌+◌, ◌≤◌, ℕ, true, false, List, [], Option, Some, None, inl, inr, refl, sym, ap, subst, ◌∙◌, true≢false, arith}
+use Rattle.std.specs.Io.KnownBytes.{Keeps}
 use Rattle.crystal_streams.specs.Faults.{Rose}
 use Rattle.crystal_streams.specs.Reads.{TakesAtMost}
 use Rattle.graph_history.specs.declared.event.Event.{Event}
+use Rattle.graph_runs.specs.declared.run.Held.{Held}
 use Rattle.command_words.specs.declared.settings.Relabelling.{Relabelling}
 use Rattle.tableau_reading.specs.Shapes.{ShapeType}
 use Rattle.answer_text.specs.Texts.{words_refusal}
@@ -29,35 +30,37 @@ some_input None = ([], tt)
 some_input (Some left) = (left, refl)
 
 module _ (reporters : List Reporter) (words : List (List ℕ)) (left : Option (List ℕ)) (heard : Heard) (is : heard ≡ heard_in words (names_of reporters)) where
-  called : (s : Status) (f : List Event) (x input : List ℕ) → IsInput left input → Calls reporters input heard s f x → Called reporters words left s f x
-  called s f x input had calls = record { input = input; had = had; calls = subst (λ (h : Heard). Calls reporters input h s f x) is calls }
+  called : (s : Status) (f : List Event) (k : Option Held) (x input : List ℕ) → IsInput left input → Calls reporters input heard s f k x → Called reporters words left s f k x
+  called s f k x input had calls = record { input = input; had = had; calls = subst (λ (h : Heard). Calls reporters input h s f k x) is calls }
 
-  pub called_refused : (fault : ℕ) (s : Status) (f : List Event) (x : List ℕ) → heard ≡ Refused fault → s ≡ WordsRefused → f ≡ [] → x ≡ words_refusal fault → Called reporters words left s f x
-  called_refused fault s f x this status front text =
+  pub called_refused : (fault : ℕ) (s : Status) (f : List Event) (k : Option Held) (x : List ℕ) → heard ≡ Refused fault → s ≡ WordsRefused → f ≡ [] → k ≡ None → x ≡ words_refusal fault
+      → Called reporters words left s f k x
+  called_refused fault s f k x this status front none text =
       let some = some_input left in
-      let base : Calls reporters some.0 (Refused fault) WordsRefused [] (words_refusal fault) = call_refused fault in
-      let calls : Calls reporters some.0 heard s f x = rw (this, status, front, text) base in
-      called s f x some.0 some.1 calls
+      let base : Calls reporters some.0 (Refused fault) WordsRefused [] None (words_refusal fault) = call_refused fault in
+      let calls : Calls reporters some.0 heard s f k x = rw (this, status, front, none, text) base in
+      called s f k x some.0 some.1 calls
 
-  pub called_grown : (places : List ℕ) (input : Input) (s : Status) (f : List Event) (x : List ℕ) → heard ≡ Grow places
-      → ((xs : List ℕ) × IsInput left xs × (input ≡ judged_input xs)) → Grows reporters places input s f x → Called reporters words left s f x
-  called_grown places input s f x this (xs, had, judged) grows =
-      let base : Calls reporters xs (Grow places) s f x = call_grow places s f x (subst (λ (i : Input). Grows reporters places i s f x) judged grows) in
-      called s f x xs had (subst (λ (h : Heard). Calls reporters xs h s f x) (sym this) base)
+  pub called_grown : (growers : ℕ) (places : List ℕ) (input : Input) (s : Status) (f : List Event) (k : Option Held) (x : List ℕ) → heard ≡ Grow growers places
+      → ((xs : List ℕ) × IsInput left xs × (input ≡ judged_input xs)) → Grows reporters places input s f k x → Called reporters words left s f k x
+  called_grown growers places input s f k x this (xs, had, judged) grows =
+      let base : Calls reporters xs (Grow growers places) s f k x = call_grow growers places s f k x (subst (λ (i : Input). Grows reporters places i s f k x) judged grows) in
+      called s f k x xs had (subst (λ (h : Heard). Calls reporters xs h s f k x) (sym this) base)
 
-  pub called_counted : (shape : ShapeType) (s : Status) (f : List Event) (x : List ℕ) → heard ≡ Census shape → f ≡ [] → Counts shape s x → Called reporters words left s f x
-  called_counted shape s f x this front counts =
+  pub called_counted : (shape : ShapeType) (s : Status) (f : List Event) (k : Option Held) (x : List ℕ) → heard ≡ Census shape → f ≡ [] → k ≡ None → Counts shape s x
+      → Called reporters words left s f k x
+  called_counted shape s f k x this front none counts =
       let some = some_input left in
-      let base : Calls reporters some.0 (Census shape) s [] x = call_census shape s x counts in
-      let calls : Calls reporters some.0 heard s f x = rw (this, front) base in
-      called s f x some.0 some.1 calls
+      let base : Calls reporters some.0 (Census shape) s [] None x = call_census shape s x counts in
+      let calls : Calls reporters some.0 heard s f k x = rw (this, front, none) base in
+      called s f k x some.0 some.1 calls
 
-  pub called_compared : (r : Relabelling) (input : Input) (s : Status) (f : List Event) (x : List ℕ) → heard ≡ Match r → f ≡ []
-      → ((xs : List ℕ) × IsInput left xs × (input ≡ judged_input xs)) → Compares r input s x → Called reporters words left s f x
-  called_compared r input s f x this front (xs, had, judged) compares =
-      let base : Calls reporters xs (Match r) s [] x = call_match r s x (subst (λ (i : Input). Compares r i s x) judged compares) in
-      let calls : Calls reporters xs heard s f x = rw (this, front) base in
-      called s f x xs had calls
+  pub called_compared : (r : Relabelling) (input : Input) (s : Status) (f : List Event) (k : Option Held) (x : List ℕ) → heard ≡ Match r → f ≡ [] → k ≡ None
+      → ((xs : List ℕ) × IsInput left xs × (input ≡ judged_input xs)) → Compares r input s x → Called reporters words left s f k x
+  called_compared r input s f k x this front none (xs, had, judged) compares =
+      let base : Calls reporters xs (Match r) s [] None x = call_match r s x (subst (λ (i : Input). Compares r i s x) judged compares) in
+      let calls : Calls reporters xs heard s f k x = rw (this, front, none) base in
+      called s f k x xs had calls
 
 -- ---- what was read
 
@@ -110,18 +113,20 @@ low WordsRefused = omega arith
 low JobRefused = omega arith
 low Full = omega arith
 
-kept : (held : Option (List ℕ)) → Keeps held held
-kept None = tt
-kept (Some xs) = refl
+keeps : (bytes : Option (List ℕ)) → Keeps bytes bytes
+keeps None = tt
+keeps (Some xs) = refl
 
-module _ {S K : Type 0} (left : S → Option (List ℕ)) (read_faults : S → ℕ) (held : K → Option (List ℕ)) (write_faults : K → ℕ)
+module _ {S K : Type 0} (left : S → Option (List ℕ)) (read_faults : S → ℕ) (kept : K → Option (List ℕ)) (write_faults : K → ℕ)
     (reporters : List Reporter) (words : List (List ℕ)) (source source' : S) (sink sink' : K) (outcome : Outcome) where
-  pub run_answered : (status : Status) (front : List Event) (text : List ℕ) (done failed : Type 0) → Called reporters words (left source) status front text
+  pub run_answered : (status : Status) (front : List Event) (held : Option Held) (text : List ℕ) (done failed : Type 0) → Called reporters words (left source) status front held text
       → HasRead left read_faults reporters words source source' done failed → done
-      → outcome.front ≡ front → IsWritten (held sink) (held sink') (write_faults sink) (write_faults sink') status text outcome.status → write_faults sink ≤ write_faults sink'
-      → IsRun left read_faults held write_faults reporters words source source' sink sink' outcome
-  run_answered status front text done failed called read is_done same written later =
-      let own : Called reporters words (left source) status outcome.front text = subst (λ (f : List Event). Called reporters words (left source) status f text) (sym same) called in
+      → outcome.front ≡ front → outcome.held ≡ held → IsWritten (kept sink) (kept sink') (write_faults sink) (write_faults sink') status text outcome.status → write_faults sink ≤ write_faults sink'
+      → IsRun left read_faults kept write_faults reporters words source source' sink sink' outcome
+  run_answered status front held text done failed called read is_done same own_held written later =
+      let own : Called reporters words (left source) status outcome.front outcome.held text =
+      subst (λ (h : Option Held). Called reporters words (left source) status outcome.front h text) (sym own_held)
+      (subst (λ (f : List Event). Called reporters words (left source) status f held text) (sym same) called) in
       let range = low status in
       record {
         told = λ three. elim written [
@@ -148,12 +153,12 @@ module _ {S K : Type 0} (left : S → Option (List ℕ)) (read_faults : S → �
       }
 
   pub run_stopped : (stop : Stop) (done failed : Type 0) → HasRead left read_faults reporters words source source' done failed → (stop ≡ ReadFault → failed)
-      → outcome.status ≡ stop_number stop → outcome.front ≡ [] → sink' ≡ sink
-      → IsRun left read_faults held write_faults reporters words source source' sink sink' outcome
-  run_stopped ReadFault done failed read fails status front same = record {
+      → outcome.status ≡ stop_number stop → outcome.front ≡ [] → outcome.held ≡ None → sink' ≡ sink
+      → IsRun left read_faults kept write_faults reporters words source source' sink sink' outcome
+  run_stopped ReadFault done failed read fails status front held same = record {
     told = λ three. absurd (omega (arith, three, status));
     cut = λ five. absurd (omega (arith, five, status));
-    untold = λ _. (rw same (kept (held sink)), front);
+    untold = λ _. (rw same (keeps (kept sink)), front, held);
     statuses = omega (arith, status);
     read = record {
       alone = read.alone;
@@ -164,10 +169,10 @@ module _ {S K : Type 0} (left : S → Option (List ℕ)) (read_faults : S → �
     };
     later = rw same (omega arith);
   }
-  run_stopped NoMemory done failed read fails status front same = record {
+  run_stopped NoMemory done failed read fails status front held same = record {
     told = λ three. absurd (omega (arith, three, status));
     cut = λ five. absurd (omega (arith, five, status));
-    untold = λ _. (rw same (kept (held sink)), front);
+    untold = λ _. (rw same (keeps (kept sink)), front, held);
     statuses = omega (arith, status);
     read = record {
       alone = read.alone;

@@ -1,5 +1,5 @@
 -- The parts of the chosen statistics one after another.
-use Rattle.std.proofs.Common.{◌≡◌, refl, sym, subst, ap, ap₂, ◌∙◌, ℕ, ◌+◌, ◌<◌, ◌≤◌, nat_eq, Bool, true, if◌then◌else◌, Contains, List, [], ◌∷◌, ◌++◌, length, map, take, slice_get, slice_index, slice_index_or, Option, Some, append_assoc, append-nil, arith}
+use Rattle.std.proofs.Common.{◌≡◌, refl, sym, subst, ap, ap₂, ◌∙◌, ℕ, ◌+◌, ◌<◌, ◌≤◌, nat_eq, Bool, true, if◌then◌else◌, Contains, List, [], ◌∷◌, ◌++◌, length, map, take, slice_get, slice_index, slice_index_or, Option, Some, append_assoc, append-nil}
 use Rattle.std.specs.List.{list_any}
 use Rattle.std.specs.Option.{option_map}
 use Rattle.std.proofs.lemmas.Cmp.{nat_eq_equiv}

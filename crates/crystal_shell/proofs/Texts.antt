@@ -1,9 +1,8 @@
 -- What an input says.
-use Rattle.std.proofs.Common.{◌≡◌, ◌∙◌, ◌<◌, ◌≤◌, ◌+◌, ℕ, zero, suc, Bool, true, false, cond, nat_lt, refl, sym, ap, List, [], ◌∷◌, length, Option, Some, None, IfSome, Result, Ok, Err, arith}
+use Rattle.std.proofs.Common.{◌≡◌, ◌∙◌, ◌<◌, ◌≤◌, ◌+◌, ℕ, zero, suc, Bool, true, false, cond, nat_lt, refl, sym, ap, List, [], ◌∷◌, length, Option, Some, None, IfSome, Err, arith}
 use Rattle.std.proofs.lemmas.Bool.Decides.{nat_tests}
 use Rattle.job_text.specs.Judge.{judge}
 use Rattle.job_text.specs.Outcomes.{GivesAtLine}
-use Rattle.job_text.specs.declared.faults.JobFault.{JobFault}
 use Rattle.job_text.specs.declared.faults.JobFault.TheVariants.{At}
 use Rattle.job_text.specs.declared.faults.JobWhy.{JobWhy}
 use Rattle.job_text.specs.Faults.{why_number}

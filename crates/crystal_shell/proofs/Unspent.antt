@@ -1,5 +1,5 @@
 -- Under the status 0 no event of the history is a `Spent`.
-use Rattle.std.proofs.Common.{◌≡◌, ℕ, List, [], Contains, get_or, arith}
+use Rattle.std.proofs.Common.{ℕ, List, Option, Contains, arith}
 use Rattle.graph_history.specs.declared.event.Act.TheVariants.{Spent}
 use Rattle.graph_history.specs.declared.event.Event.{Event}
 use Rattle.graph_history.proofs.Components.{spent_outnumbers}
@@ -7,15 +7,18 @@ use Rattle.crystal_shell.specs.Statistics.{Reporter}
 use Rattle.crystal_shell.specs.Inputs.{judged_input}
 use Rattle.crystal_shell.specs.Answers.{Grows, call_census, call_grow, call_match, grow_whole}
 use Rattle.crystal_shell.specs.Laws.{AnsweredIsUnspent}
+use Rattle.graph_runs.specs.declared.run.Held.{Held}
+use Rattle.crystal_shell.proofs.Histories.{ended_graph}
 use Rattle.crystal_shell.specs.declared.inputs.Input.{Input}
 use Rattle.crystal_shell.specs.declared.outcomes.Status.TheVariants.{Done}
 
-grows_unspent : (reporters : List Reporter) (places : List ℕ) (input : Input) (f : List Event) (y : List ℕ) (n x : ℕ) →
-    Grows reporters places input Done f y → Contains f (record { caller = n; act = Spent x }) → ⊥
-grows_unspent reporters places input f y n x (grow_whole job g front told answers history graph asked) there =
-    graph.fits (spent_outnumbers job.world front n x history.legal there)
+grows_unspent : (reporters : List Reporter) (places : List ℕ) (input : Input) (f : List Event) (k : Option Held) (y : List ℕ) (n x : ℕ) →
+    Grows reporters places input Done f k y → Contains f (record { caller = n; act = Spent x }) → ⊥
+grows_unspent reporters places input f k y n x (grow_whole job g front held told answers history ends holds asked) there =
+    (ended_graph job.world front g ends).fits (spent_outnumbers job.world front n x history.legal there)
 
 pub answered_is_unspent : AnsweredIsUnspent
-answered_is_unspent reporters input heard front text n x (call_grow places status front' text' grows) there = grows_unspent reporters places (judged_input input) front' text' n x grows there
-answered_is_unspent reporters input heard front text n x (call_census shape status text' counts) (k, below, is) = omega (arith, below)
-answered_is_unspent reporters input heard front text n x (call_match r status text' compares) (k, below, is) = omega (arith, below)
+answered_is_unspent reporters input heard front held text n x (call_grow growers places status front' held' text' grows) there =
+    grows_unspent reporters places (judged_input input) front' held' text' n x grows there
+answered_is_unspent reporters input heard front held text n x (call_census shape status text' counts) (k, below, is) = omega (arith, below)
+answered_is_unspent reporters input heard front held text n x (call_match r status text' compares) (k, below, is) = omega (arith, below)

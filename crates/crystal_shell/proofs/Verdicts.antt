@@ -1,11 +1,10 @@
 -- A census and a verdict on two components are determined.
-use Rattle.std.proofs.Common.{arith, ◌≡◌, ◌≢◌, refl, sym, ap, ap₂, ◌∙◌, subst, ℕ, zero, suc, ◌+◌, ◌-◌, ◌<◌, ◌≤◌, Bool, true, false, ◌||◌, ◌&&◌, ◌==◌, nat_lt, List, [], ◌∷◌, length, map, IsTrue, eq-eqb}
+use Rattle.std.proofs.Common.{arith, ◌≡◌, refl, sym, ap, ap₂, ◌∙◌, ℕ, ◌≤◌, Bool, true, false, ◌||◌, ◌&&◌, ◌==◌, nat_lt, List, [], ◌∷◌, length, map, IsTrue, eq-eqb}
 use Rattle.std.proofs.lemmas.Bool.{ltb-false}
 use Rattle.std.proofs.lemmas.List.{length-map}
 use Rattle.std.proofs.lemmas.List.Kept.{AllPairs-from_increasing}
-use Rattle.std.specs.List.Sorted.{IsStrictlyIncreasing}
 use Rattle.tensor_words.specs.Codes.{is_before}
-use Rattle.tensor_words.specs.Reach.{IsPath, IsReachedFrom}
+use Rattle.tensor_words.specs.Reach.{IsPath}
 use Rattle.tensor_words.specs.Operators.{IsArrow}
 use Rattle.tensor_words.proofs.Walks.{same_members}
 use Rattle.tableau_reading.specs.Shapes.{ShapeType}
@@ -14,7 +13,7 @@ use Rattle.tableau_census.proofs.Theorem.{census_is_unique}
 use Rattle.crystal_cartan.specs.declared.types.Arrow.{Arrow}
 use Rattle.crystal_match.specs.Listings.{firsts}
 use Rattle.crystal_match.specs.Matching.{AreSame}
-use Rattle.crystal_match.specs.Telling.{IsFirstTelling, PointedType, Tells, arrow_places}
+use Rattle.crystal_match.specs.Telling.{IsFirstTelling, PointedType}
 use Rattle.signature_rule.specs.ArrowOrder.{arrow_place}
 
 pub list_unique : (shape : ShapeType) (limit : ℕ) (xs ys : List ℕ) → IsListed shape limit xs → IsListed shape limit ys → xs ≡ ys

@@ -1,12 +1,12 @@
 -- What command words ask for.
-use Rattle.std.proofs.Common.{◌≡◌, ◌∙◌, ℕ, List, Some, None, Result, Ok, Err, inl, inr, sym, ap, map, subst, Option}
+use Rattle.std.proofs.Common.{◌≡◌, ◌∙◌, ℕ, List, Some, None, Ok, Err, inl, inr, sym, ap, map, subst, Option}
 use Rattle.command_words.specs.Judge.{IsAnswer, judge_words}
 use Rattle.command_words.specs.Fault.{fault_number}
 use Rattle.command_words.specs.declared.fault.WordsFault.{WordsFault}
 use Rattle.command_words.specs.declared.fault.WordsFault.TheVariants.{NoMemory}
 use Rattle.command_words.specs.declared.settings.Settings.{Settings}
 use Rattle.crystal_characters.specs.declared.items.Item.{Item}
-use Rattle.crystal_shell.specs.Statistics.{Reporter, names_of}
+use Rattle.crystal_shell.specs.Statistics.{names_of}
 use Rattle.crystal_shell.specs.Heard.{heard_in, heard_of, number_of}
 use Rattle.crystal_shell.specs.declared.hearing.Heard.{Heard}
 use Rattle.crystal_shell.specs.declared.hearing.Heard.TheVariants.{Refused}

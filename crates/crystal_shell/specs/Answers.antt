@@ -1,7 +1,6 @@
 -- What the command words and the input call for.
-use Rattle.std.specs.Prelude.{ℕ, ◌<◌, ◌≤◌, ◌≡◌, List, [], ◌++◌, length, slice_index}
+use Rattle.std.specs.Prelude.{ℕ, ◌<◌, ◌≤◌, List, [], ◌++◌, length, slice_index, Option, Some, None}
 use Rattle.crystal_cartan.specs.Types.{CartanType}
-use Rattle.tensor_words.specs.Reach.{Outnumber}
 use Rattle.tensor_words.specs.Spaces.{SpaceType}
 use Rattle.tableau_reading.specs.Shapes.{ShapeType, shape_space}
 use Rattle.canonical_graph.specs.Graphs.{FinishedType}
@@ -22,7 +21,8 @@ use Rattle.answer_text.specs.Texts.{head_line, sessions_text, graph_part, full_l
 use Rattle.answer_text.specs.Modes.{census_line, tableaux_text, same_line, differs_line}
 use Rattle.crystal_shell.specs.Statistics.{Reporter, statistics_text}
 use Rattle.crystal_shell.specs.Inputs.{judged_input}
-use Rattle.crystal_shell.specs.Histories.{IsHistory, IsGraph}
+use Rattle.graph_runs.specs.Runs.{Ends, Holds, IsHistory}
+use Rattle.graph_runs.specs.declared.run.Held.{Held}
 use Rattle.crystal_shell.specs.declared.hearing.Heard.{Heard}
 use Rattle.crystal_shell.specs.declared.hearing.Heard.TheVariants as heard
 use Rattle.crystal_shell.specs.declared.inputs.Input.{Input}
@@ -49,15 +49,21 @@ whole_text f told parts answers =
 abbrev pub full_text : SpaceType → List (List Reply) → List ℕ
 full_text s told = ended (head_line s.cartan) ++ sessions_text s told ++ ended full_line ++ ended end_line
 
--- the status, the history and the text that an input calls for, where the statistics at these places are chosen
-pub data Grows (reporters : List Reporter) (places : List ℕ) : Input → Status → List Event → List ℕ → Type 0 where
-  grow_refused : (line fault : ℕ) → Grows reporters places (Refused line fault) JobRefused [] (job_refusal line fault)
-  grow_whole : (job : Job) (f : FinishedType) (front : List Event) (told : List (List Reply)) (answers : List ℕ)
-      → IsHistory job.world job.starts job.scripts front told → IsGraph job.world f
+-- the status, the history, the graph with its one seat, and the text that an input calls for, where the statistics at
+-- these places are chosen
+pub data Grows (reporters : List Reporter) (places : List ℕ) : Input → Status → List Event → Option Held → List ℕ → Type 0 where
+  -- a refused job is answered by its line and fault alone
+  grow_refused : (line fault : ℕ) → Grows reporters places (Refused line fault) JobRefused [] None (job_refusal line fault)
+  -- a job whose graph is finished: there is one history of it, which ended closed and is that of the held seat; the text has
+  -- its replies, the graph of its vertices, the statistics and the answers to the asks
+  grow_whole : (job : Job) (f : FinishedType) (front : List Event) (held : Held) (told : List (List Reply)) (answers : List ℕ)
+      → IsHistory job.world job.starts job.scripts front told → Ends job.world front (Some f) → Holds job.world held.graph held.seat front
       → AreAnswers f (slice_index job.starts 0) job.asks answers
-      → Grows reporters places (Taken job) Done front (whole_text f told (statistics_text reporters places (items_of f)) answers)
-  grow_full : (job : Job) (front : List Event) (told : List (List Reply)) → IsHistory job.world job.starts job.scripts front told
-      → Outnumber job.world → Grows reporters places (Taken job) Full front (full_text job.world.space told)
+      → Grows reporters places (Taken job) Done front (Some held) (whole_text f told (statistics_text reporters places (items_of f)) answers)
+  -- a job with more reached words than cells: there is one history of it, in which some word found no cell; the text has
+  -- its replies, and `full`
+  grow_full : (job : Job) (front : List Event) (held : Held) (told : List (List Reply)) → IsHistory job.world job.starts job.scripts front told
+      → Ends job.world front None → Holds job.world held.graph held.seat front → Grows reporters places (Taken job) Full front (Some held) (full_text job.world.space told)
 
 -- ---- census
 
@@ -105,12 +111,12 @@ pub data Compares (r : Relabelling) : Input → Status → List ℕ → Type 0 w
 
 -- ---- all of them
 
--- the status, the history and the text that heard words and an input call for
-pub data Calls (reporters : List Reporter) (input : List ℕ) : Heard → Status → List Event → List ℕ → Type 0 where
-  call_refused : (fault : ℕ) → Calls reporters input (heard.Refused fault) WordsRefused [] (words_refusal fault)
-  call_grow : (places : List ℕ) (status : Status) (front : List Event) (text : List ℕ)
-      → Grows reporters places (judged_input input) status front text → Calls reporters input (heard.Grow places) status front text
+-- the status, the history, the held graph and the text that heard words and an input call for
+pub data Calls (reporters : List Reporter) (input : List ℕ) : Heard → Status → List Event → Option Held → List ℕ → Type 0 where
+  call_refused : (fault : ℕ) → Calls reporters input (heard.Refused fault) WordsRefused [] None (words_refusal fault)
+  call_grow : (growers : ℕ) (places : List ℕ) (status : Status) (front : List Event) (held : Option Held) (text : List ℕ)
+      → Grows reporters places (judged_input input) status front held text → Calls reporters input (heard.Grow growers places) status front held text
   call_census : (shape : ShapeType) (status : Status) (text : List ℕ) → Counts shape status text
-      → Calls reporters input (heard.Census shape) status [] text
+      → Calls reporters input (heard.Census shape) status [] None text
   call_match : (r : Relabelling) (status : Status) (text : List ℕ) → Compares r (judged_input input) status text
-      → Calls reporters input (heard.Match r) status [] text
+      → Calls reporters input (heard.Match r) status [] None text

@@ -1,5 +1,5 @@
 -- What the command words ask for.
-use Rattle.std.specs.Prelude.{ℕ, ◌<◌, ◌≡◌, Bool, true, false, List, length, slice_index, nat_eq, Option, Some, None, Result, Ok, Err}
+use Rattle.std.specs.Prelude.{ℕ, ◌<◌, ◌≤◌, ◌≡◌, Bool, true, false, List, length, slice_index, nat_eq, Option, Some, None, Result, Ok, Err}
 use Rattle.std.specs.List.{IsDistinct}
 use Rattle.crystal_cartan.specs.declared.types.Kind.TheVariants.{A}
 use Rattle.tensor_words.specs.declared.spaces.Order.TheVariants.{Standard}
@@ -19,7 +19,7 @@ number_of None = 0
 -- what judged words ask for; the mode `sample` is not served yet, and refused with the number 8
 abbrev pub heard_of : Result Settings WordsFault → Heard
 heard_of (Err fault) = Refused (number_of (fault_number fault))
-heard_of (Ok (setting.Grow growers places)) = Grow places
+heard_of (Ok (setting.Grow growers places)) = Grow growers places
 heard_of (Ok (setting.Sample growers number)) = Refused 8
 heard_of (Ok (setting.Census shape)) = Census shape
 heard_of (Ok (setting.Match relabelling)) = Match relabelling
@@ -31,7 +31,7 @@ heard_in words names = heard_of (judge_words words names)
 -- whether they ask for a job
 abbrev pub asks_for_job : Heard → Bool
 asks_for_job (Refused fault) = false
-asks_for_job (Grow places) = true
+asks_for_job (Grow growers places) = true
 asks_for_job (Census shape) = false
 asks_for_job (Match relabelling) = true
 
@@ -40,9 +40,9 @@ pub record AreChosen (count : ℕ) (places : List ℕ) : Type 0 where
   pub distinct : IsDistinct nat_eq places
   pub below : (k : ℕ) → k < length places → slice_index places k < count
 
--- what was heard names statistics that there are, and a shape of type A in the standard tensor order
+-- what was heard names 1 to 16 growers, statistics that there are, and a shape of type A in the standard tensor order
 abbrev pub Fits : ℕ → Heard → Type 0
 Fits count (Refused fault) = Unit {0}
-Fits count (Grow places) = AreChosen count places
+Fits count (Grow growers places) = (1 ≤ growers) × (growers ≤ 16) × AreChosen count places
 Fits count (Census shape) = (shape.cartan.kind ≡ A) × (shape.order ≡ Standard)
 Fits count (Match relabelling) = Unit {0}

@@ -1,7 +1,6 @@
 pub mod Statistics
 pub mod Heard
 pub mod Inputs
-pub mod Histories
 pub mod Answers
 pub mod Runs
 pub mod Stops

@@ -1,32 +1,23 @@
 -- A run of the program, from bytes to bytes: `IsRun` is the whole promise of `run`.
-use Rattle.std.specs.Prelude.{ℕ, ◌+◌, ◌≤◌, ◌≡◌, ◌≢◌, ◌⊎◌, true, false, List, [], length, take, Option, Result, IfOk, OnOk, IsErrOf}
+use Rattle.std.specs.Prelude.{ℕ, ◌+◌, ◌≤◌, ◌≡◌, ◌≢◌, ◌⊎◌, true, false, List, [], take, Option, None}
 use Rattle.std.specs.Io.KnownBytes.{Appends, Keeps}
 use Rattle.crystal_streams.specs.Faults.{Rose}
 use Rattle.crystal_streams.specs.Reads.{TakesAtMost}
 use Rattle.graph_history.specs.declared.event.Event.{Event}
+use Rattle.graph_runs.specs.declared.run.Held.{Held}
 use Rattle.crystal_shell.specs.Statistics.{Reporter, names_of}
 use Rattle.crystal_shell.specs.Heard.{heard_in, asks_for_job}
 use Rattle.crystal_shell.specs.Inputs.{job_limit, IsInput, ReadsJob}
 use Rattle.crystal_shell.specs.Answers.{Calls, status_number}
-use Rattle.crystal_shell.specs.declared.outcomes.Answer.{Answer}
 use Rattle.crystal_shell.specs.declared.outcomes.Outcome.{Outcome}
 use Rattle.crystal_shell.specs.declared.outcomes.Status.{Status}
-use Rattle.crystal_shell.specs.declared.outcomes.Stop.{Stop}
-use Rattle.crystal_shell.specs.declared.outcomes.Stop.TheVariants.{ReadFault}
 
--- the command words and some input call for this status, this history and this text, and the input is what the source had
--- left, where it tells that
-pub record Called (reporters : List Reporter) (words : List (List ℕ)) (left : Option (List ℕ)) (status : Status) (front : List Event) (text : List ℕ) : Type 0 where
+-- the command words and some input call for this status, this history, this held graph and this text, and the input is what
+-- the source had left, where it tells that
+pub record Called (reporters : List Reporter) (words : List (List ℕ)) (left : Option (List ℕ)) (status : Status) (front : List Event) (held : Option Held) (text : List ℕ) : Type 0 where
   pub input : List ℕ
   pub had : IsInput left input
-  pub calls : Calls reporters input (heard_in words (names_of reporters)) status front text
-
--- an answer with this status and this text was written, and the run ended so: with the status, and the text was written
--- whole, or with 5, a write failed, and a front of the text was written
-abbrev pub IsWritten : Option (List ℕ) → Option (List ℕ) → ℕ → ℕ → Status → List ℕ → ℕ → Type 0
-IsWritten held held' faults faults' status text ended =
-    ((ended ≡ status_number status) × Appends held held' text)
-    ⊎ ((ended ≡ 5) × Rose faults faults' × (n : ℕ) × Appends held held' (take n text))
+  pub calls : Calls reporters input (heard_in words (names_of reporters)) status front held text
 
 -- what was read of a source, of which contracts see what it has left and how many of its reads failed, in a call that may
 -- have come to nothing by a fault of a read
@@ -39,24 +30,34 @@ pub record HasRead {S : Type 0} (left : S → Option (List ℕ)) (faults : S →
   pub most : TakesAtMost (job_limit + 1) (left before) (left after)
   -- a fault of a read comes only where one was asked for and failed
   pub fault : failed → (asks_for_job (heard_in words (names_of reporters)) ≡ true) × Rose (faults before) (faults after)
+  -- the count of failed reads never falls
   pub later : faults before ≤ faults after
 
 -- a run with these statistics and command words, over a source and a sink, of which contracts see what they have left and
 -- what they hold, and how many of their reads and writes failed
-pub record IsRun {S K : Type 0} (left : S → Option (List ℕ)) (read_faults : S → ℕ) (held : K → Option (List ℕ)) (write_faults : K → ℕ)
+pub record IsRun {S K : Type 0} (left : S → Option (List ℕ)) (read_faults : S → ℕ) (kept : K → Option (List ℕ)) (write_faults : K → ℕ)
     (reporters : List Reporter) (words : List (List ℕ)) (source source' : S) (sink sink' : K) (outcome : Outcome) : Type 0 where
-  -- under the status 0 to 3 the whole text was written that the words and the input call for, with this status and this
-  -- history
+  -- under the status 0 to 3 the whole text was written that the words and some input call for, with this status, this
+  -- history and this held graph
   pub told : outcome.status ≤ 3 → (status : Status) × (text : List ℕ) × (outcome.status ≡ status_number status)
-      × Called reporters words (left source) status outcome.front text × Appends (held sink) (held sink') text
-  -- under 5 a write failed, and a front of such a text was written
+      × Called reporters words (left source) status outcome.front outcome.held text × Appends (kept sink) (kept sink') text
+  -- under 5 a write failed, and a beginning of such a text was written
   pub cut : outcome.status ≡ 5 → Rose (write_faults sink) (write_faults sink')
       × (status : Status) × (text : List ℕ) × (n : ℕ)
-      × Called reporters words (left source) status outcome.front text × Appends (held sink) (held sink') (take n text)
-  -- under 4, where a read failed, and under 6, where memory was short, nothing was written, and the history is empty
-  pub untold : (outcome.status ≡ 4) ⊎ (outcome.status ≡ 6) → Keeps (held sink) (held sink') × (outcome.front ≡ [])
+      × Called reporters words (left source) status outcome.front outcome.held text × Appends (kept sink) (kept sink') (take n text)
+  -- under 4, where a read failed, and under 6, which any run may answer for want of memory, nothing was written, the
+  -- history is empty, and nothing is held
+  pub untold : (outcome.status ≡ 4) ⊎ (outcome.status ≡ 6) → Keeps (kept sink) (kept sink') × (outcome.front ≡ []) × (outcome.held ≡ None)
   -- there is no other status
   pub statuses : outcome.status ≤ 6
   -- the source was read as the words ask for
   pub read : HasRead left read_faults reporters words source source' ((outcome.status ≢ 4) × (outcome.status ≢ 6)) (outcome.status ≡ 4)
+  -- the count of failed writes never falls
   pub later : write_faults sink ≤ write_faults sink'
+
+-- how the writing of an answer with this status and this text ended: with the status, and the text was written whole, or
+-- with 5, a write failed, and a beginning of the text was written
+abbrev pub IsWritten : Option (List ℕ) → Option (List ℕ) → ℕ → ℕ → Status → List ℕ → ℕ → Type 0
+IsWritten held held' faults faults' status text ended =
+    ((ended ≡ status_number status) × Appends held held' text)
+    ⊎ ((ended ≡ 5) × Rose faults faults' × (n : ℕ) × Appends held held' (take n text))

@@ -1,5 +1,5 @@
 //! The mode `census`: the semistandard tableaux of a shape.
-ghost use Rattle.std.specs.Prelude.{◌≡◌, ◌<◌, [], IfOk, All};
+ghost use Rattle.std.specs.Prelude.{◌≡◌, ◌<◌, [], None, IfOk, All};
 ghost use Rattle.crystal_cartan.specs.declared.types.Kind.TheVariants.{A};
 ghost use Rattle.tensor_words.specs.Spaces.{size};
 ghost use Rattle.tensor_words.specs.declared.spaces.Order.TheVariants.{Standard};
@@ -23,7 +23,7 @@ pub(crate) fn count(alloc: Global, shape: &Shape) -> Result<Answer, NoMemory>
     requires kind { shape.now.cartan.kind ≡ A }
     requires order { shape.now.order ≡ Standard }
     ensures counts { IfOk result (λ a. Counts shape.now a.status a.text.items) }
-    ensures front { IfOk result (λ a. a.front ≡ []) }
+    ensures unkept { IfOk result (λ a. (a.front ≡ []) × (a.held ≡ None)) }
 {
     match census(alloc, shape, CENSUS_LIMIT) {
         Ok(list) => Ok(Answer::without_history(Status::Done, listed(alloc, shape, &list)?)),

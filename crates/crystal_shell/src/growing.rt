@@ -1,5 +1,5 @@
 //! The mode `grow`: the crystal of a job, what its sessions were told, statistics and asks.
-ghost use Rattle.std.specs.Prelude.{◌≡◌, ◌<◌, ◌^◌, ℕ, List, [], IfOk, map, length, slice_index_or, All, Contains};
+ghost use Rattle.std.specs.Prelude.{◌≡◌, ◌≤◌, ◌<◌, ◌^◌, ℕ, List, [], IfOk, map, length, slice_index_or, All, Contains};
 ghost use Rattle.job_text.specs.Jobs.{IsAsk, IsJob};
 ghost use Rattle.session_desk.specs.Texts.{IsPrintable};
 ghost use Rattle.ask_answers.specs.Answers.{AreAnswers};
@@ -12,50 +12,59 @@ ghost use Rattle.crystal_shell.specs.Answers.{Grows, full_text, whole_text};
 use crate::inputs::Input;
 use crate::outcomes::{Answer, Status};
 use crate::refusals::refused_job;
-use crate::serving::{Served, serve};
 use crate::statistics::push_statistics;
 use answer_text::{push_end, push_full, push_graph, push_head, push_sessions};
 use ask_answers::push_asks;
 use canonical_graph::Finished;
 use command_words::Places;
 use crystal_characters::Statistic;
-use crystal_streams::NoMemory;
+use crystal_streams::{Gate, NoMemory};
+use graph_runs::{Ran, run_beside};
 use job_text::{Asks, Job};
 use session_desk::Replies;
 use std::alloc::Global;
+use std::thread::Threads;
 use tensor_words::Space;
 
-/// The answer to an input, where the statistics at these places are chosen.
-pub(crate) fn grow(
+/// The answer to an input, with so many growers, where the statistics at these places are chosen.
+pub(crate) fn grow<T: Threads + Sync, G: Gate>(
+    rt: &T,
     alloc: Global,
     input: Input,
+    growers: u32,
     stats: &mut Vec<Box<dyn Statistic>>,
     places: &Places,
+    gate: &G,
 ) -> Result<Answer, NoMemory>
     requires lawful { IsLawful input }
+    requires growers { (1 ≤ growers) × (growers ≤ 16) }
     requires chosen { AreChosen (length stats.old.items) places.now }
     requires fresh { AreFresh (λ b. named b) (λ b. fed b) stats.old.items }
     ensures { let reporters : List Reporter = map (λ b. record { name = named b; reports = reported b }) stats.old.items in
-        IfOk result (λ a. Grows reporters places.now input a.status a.front a.text.items) }
+        IfOk result (λ a. Grows reporters places.now input a.status a.front a.held a.text.items) }
 {
     match input {
         Input::Refused { line, fault } => refused_job(alloc, line, fault),
-        Input::Taken { job } => grow_job(alloc, job, stats, places),
+        Input::Taken { job } => grow_job(rt, alloc, job, growers, stats, places, gate),
     }
 }
 
 /// The answer to a job.
-fn grow_job(
+fn grow_job<T: Threads + Sync, G: Gate>(
+    rt: &T,
     alloc: Global,
     job: Job,
+    growers: u32,
     stats: &mut Vec<Box<dyn Statistic>>,
     places: &Places,
+    gate: &G,
 ) -> Result<Answer, NoMemory>
     requires job { IsJob job }
+    requires growers { (1 ≤ growers) × (growers ≤ 16) }
     requires chosen { AreChosen (length stats.old.items) places.now }
     requires fresh { AreFresh (λ b. named b) (λ b. fed b) stats.old.items }
     ensures { let reporters : List Reporter = map (λ b. record { name = named b; reports = reported b }) stats.old.items in
-        IfOk result (λ a. Grows reporters places.now (Input.Taken job) a.status a.front a.text.items) }
+        IfOk result (λ a. Grows reporters places.now (Input.Taken job) a.status a.front a.held a.text.items) }
 {
     let Job {
         world,
@@ -64,11 +73,17 @@ fn grow_job(
         asks,
     } = job;
     let space = *world.space();
-    let Served { told, graph, front } = serve(alloc, world, &starts, &scripts)?;
-    match graph {
+    let Ran {
+        told,
+        finished,
+        front,
+        held,
+    } = run_beside(rt, alloc, world, &starts, &scripts, growers, gate)?;
+    match finished {
         Some(graph) => Ok(Answer {
             status: Status::Done,
             front,
+            held: Some(held),
             text: whole_text(
                 alloc,
                 &graph,
@@ -82,6 +97,7 @@ fn grow_job(
         None => Ok(Answer {
             status: Status::Full,
             front,
+            held: Some(held),
             text: full_text(alloc, &space, told.as_slice())?,
         }),
     }

@@ -19,8 +19,8 @@ const MODE_NOT_SERVED: u8 = 8;
 pub(crate) enum Heard {
     /// They are refused, with the number of the fault.
     Refused { fault: u8 },
-    /// A job's crystal, and the statistics at these places.
-    Grow { places: Places },
+    /// A job's crystal, grown by so many growers, and the statistics at these places.
+    Grow { growers: u32, places: Places },
     /// The tableaux of a shape.
     Census { shape: Shape },
     /// A job's first two starts compared.
@@ -49,7 +49,10 @@ fn heard_of(settings: Settings) -> Heard
     ensures fits { (count : ℕ) → FitsNames count settings → Fits count result }
 {
     match settings {
-        Settings::Grow { chosen, .. } => Heard::Grow { places: chosen },
+        Settings::Grow { growers, chosen } => Heard::Grow {
+            growers,
+            places: chosen,
+        },
         Settings::Sample { .. } => Heard::Refused {
             fault: MODE_NOT_SERVED,
         },

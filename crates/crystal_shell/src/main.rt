@@ -9,17 +9,17 @@ mod laws;
 mod matching;
 mod outcomes;
 mod refusals;
-mod serving;
 mod statistics;
 #[cfg(test)]
 mod tests;
 mod top;
 
 use crystal_characters::{CharacterTally, EndTally, Statistic, StringTally};
-use crystal_streams::{InputAdapter, OutputAdapter};
-use std::alloc::AllocError;
+use crystal_streams::{InputAdapter, OpenGate, OutputAdapter, Sink, Source};
+use std::alloc::{AllocError, Global};
 use std::io::ErrorKind;
 use std::process::ExitCode;
+use std::thread::Threads;
 use std::{env, io};
 
 /// The status where there is no memory.
@@ -27,23 +27,30 @@ const NO_MEMORY: u8 = 6;
 
 /// Runs the program on standard input and standard output, and ends with the status of the run.
 fn main(rt: HostRuntime) -> ExitCode {
-    match status(&rt) {
+    let Ok(words) = command_words(&rt) else {
+        return ExitCode::from(NO_MEMORY);
+    };
+    let mut source = InputAdapter::new(rt.stdin());
+    let mut sink = OutputAdapter::new(rt.stdout());
+    match status(&rt, rt.alloc(), words.as_slice(), &mut source, &mut sink) {
         Ok(status) => ExitCode::from(status),
         Err(AllocError) => ExitCode::from(NO_MEMORY),
     }
 }
 
-/// The status of a run on standard input and standard output, with the statistics `character`, `strings` and `ends`.
-fn status(rt: &HostRuntime) -> Result<u8, AllocError> {
-    let alloc = rt.alloc();
-    let words = command_words(rt)?;
+/// The status of a run with the statistics `character`, `strings` and `ends`.
+fn status<T: Threads + Sync, R: Source, W: Sink>(
+    rt: &T,
+    alloc: Global,
+    words: &[String],
+    source: &mut R,
+    sink: &mut W,
+) -> Result<u8, AllocError> {
     let mut stats: Vec<Box<dyn Statistic>> = Vec::new(alloc);
     stats.push(Box::new(alloc, CharacterTally::new(alloc))?)?;
     stats.push(Box::new(alloc, StringTally::new(alloc))?)?;
     stats.push(Box::new(alloc, EndTally::new(alloc))?)?;
-    let mut source = InputAdapter::new(rt.stdin());
-    let mut sink = OutputAdapter::new(rt.stdout());
-    let outcome = top::run(alloc, words.as_slice(), &mut source, &mut sink, stats);
+    let outcome = top::run(rt, alloc, words, source, sink, stats, &OpenGate);
     Ok(outcome.status)
 }
 

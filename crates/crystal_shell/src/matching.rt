@@ -1,5 +1,5 @@
 //! The mode `match`: the components of a job's first two starts compared.
-ghost use Rattle.std.specs.Prelude.{◌≡◌, ◌≤◌, ◌<◌, ◌^◌, [], IfOk, length};
+ghost use Rattle.std.specs.Prelude.{◌≡◌, ◌≤◌, ◌<◌, ◌^◌, [], None, IfOk, length};
 ghost use Rattle.job_text.specs.Jobs.{IsJob};
 ghost use Rattle.answer_text.specs.Modes.{differs_line, same_line};
 ghost use Rattle.answer_text.specs.Texts.{full_line};
@@ -28,7 +28,7 @@ pub(crate) fn matched(
 ) -> Result<Answer, NoMemory>
     requires { IsLawful input }
     ensures compares { IfOk result (λ a. Compares relabelling input a.status a.text.items) }
-    ensures front { IfOk result (λ a. a.front ≡ []) }
+    ensures unkept { IfOk result (λ a. (a.front ≡ []) × (a.held ≡ None)) }
 {
     match input {
         Input::Refused { line, fault } => refused_job(alloc, line, fault),
@@ -40,7 +40,7 @@ pub(crate) fn matched(
 fn match_job(alloc: Global, job: &Job, relabelling: Relabelling) -> Result<Answer, NoMemory>
     requires { IsJob job.now }
     ensures compares { IfOk result (λ a. Compares relabelling (Input.Taken job.now) a.status a.text.items) }
-    ensures front { IfOk result (λ a. a.front ≡ []) }
+    ensures unkept { IfOk result (λ a. (a.front ≡ []) × (a.held ≡ None)) }
 {
     if job.starts.len() < 2 {
         return refused_job(alloc, 0, FEW_STARTS);

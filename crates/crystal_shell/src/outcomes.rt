@@ -1,10 +1,11 @@
 //! What a run comes to.
-ghost use Rattle.std.specs.Prelude.{◌≡◌, []};
+ghost use Rattle.std.specs.Prelude.{◌≡◌, [], None};
 ghost use Rattle.crystal_shell.specs.Answers.{status_number};
 ghost use Rattle.crystal_shell.specs.Stops.{stop_number};
 
 use crystal_streams::NoMemory;
 use graph_history::Front;
+use graph_runs::Held;
 
 /// How a run ended.
 #[derive(Drop)]
@@ -12,9 +13,11 @@ pub struct Outcome {
     /// 0 done, 1 words refused, 2 job refused, 3 there are more words, tableaux or pairs than may be, 4 a read failed,
     /// 5 a write failed, 6 want of memory.
     pub status: u8,
-    /// The history of the starts and the sessions under `grow`; empty in the other modes, where the words or the job are
-    /// refused, and under 4 and 6.
+    /// The history of the run under `grow`; empty in the other modes, where the words or the job are refused, and under 4
+    /// and 6.
     pub front: Front,
+    /// The graph of the run, with its one seat; there exactly where there is such a history.
+    pub held: Option<Held>,
 }
 
 /// What an answer that is written whole tells.
@@ -45,6 +48,7 @@ impl Status {
 pub(crate) struct Answer {
     pub(crate) status: Status,
     pub(crate) front: Front,
+    pub(crate) held: Option<Held>,
     pub(crate) text: Vec<u8>,
 }
 
@@ -53,11 +57,13 @@ impl Answer {
     pub(crate) fn without_history(status: Status, text: Vec<u8>) -> Answer
         ensures status { result.status ≡ status }
         ensures front { result.front ≡ [] }
+        ensures held { result.held ≡ None }
         ensures text { result.text.items ≡ text.items }
     {
         Answer {
             status,
             front: Front::empty(),
+            held: None,
             text,
         }
     }

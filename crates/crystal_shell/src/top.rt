@@ -1,9 +1,10 @@
 //! The top call: from bytes to bytes.
-ghost use Rattle.std.specs.Prelude.{◌≡◌, ◌≤◌, ◌⊎◌, ℕ, List, [], Ok, IfOk, IsOk, IsErrOf, length, map, string_bytes, take};
+ghost use Rattle.std.specs.Prelude.{◌≡◌, ◌≤◌, ◌⊎◌, ℕ, List, [], None, Ok, IfOk, IsOk, IsErrOf, length, map, string_bytes, take};
 ghost use Rattle.std.specs.Io.KnownBytes.{Appends};
 ghost use Rattle.crystal_streams.specs.Faults.{Rose};
 ghost use Rattle.crystal_shell.specs.Statistics.{AreFresh, Reporter};
 ghost use Rattle.crystal_shell.specs.Answers.{status_number};
+ghost use Rattle.crystal_shell.specs.Stops.{stop_number};
 ghost use Rattle.crystal_shell.specs.Runs.{Called, HasRead, IsRun, IsWritten};
 
 use crate::counting::count;
@@ -14,25 +15,29 @@ use crate::matching::matched;
 use crate::outcomes::{Answer, Outcome, Stop};
 use crate::refusals::refused_words;
 use crystal_characters::Statistic;
-use crystal_streams::{Sink, Source, WriteFault, write_all};
+use crystal_streams::{Gate, Sink, Source, WriteFault, write_all};
 use graph_history::Front;
 use std::alloc::Global;
+use std::thread::Threads;
 
 /// The status where a write failed.
 const WRITE_FAULT: u8 = 5;
 
 /// Reads command words and a job, and writes the answer. All memory is taken before the first write.
 ///
-/// `words` are the command words without the program's name. The sessions of the job run one after another on a graph
-/// in memory, and their history is in the outcome. Of the statistics those whose names the words have are fed every
-/// vertex once, in ascending rank, and reported; each has been fed nothing before, and has a name of at most 64 bytes.
-/// All of them are dropped.
-pub fn run<R: Source, W: Sink>(
+/// `words` are the command words without the program's name. Under `grow` the sessions of the job run beside each other
+/// and beside the growth, on threads of their own, over one graph; its history is in the outcome, and so is the graph with
+/// the one seat that is left. Each grower and each session passes the gate before its turns. Of the statistics those whose
+/// names the words have are fed every vertex once, in ascending rank, and reported; each has been fed nothing before, and
+/// has a name of at most 64 bytes. All of them are dropped.
+pub fn run<T: Threads + Sync, R: Source, W: Sink, G: Gate>(
+    rt: &T,
     alloc: Global,
     words: &[String],
     source: &mut R,
     sink: &mut W,
     stats: Vec<Box<dyn Statistic>>,
+    gate: &G,
 ) -> Outcome
     requires { AreFresh (λ b. named b) (λ b. fed b) stats.items }
     ensures { let reporters : List Reporter = map (λ b. record { name = named b; reports = reported b }) stats.items in
@@ -40,18 +45,29 @@ pub fn run<R: Source, W: Sink>(
         source.old source.new sink.old sink.new result }
 {
     let mut stats = stats;
-    match answer(alloc, words, source, &mut stats) {
+    match answer(rt, alloc, words, source, &mut stats, gate) {
         Ok(answer) => write_answer(sink, answer),
-        Err(stop) => Outcome {
-            status: stop.number(),
-            front: Front::empty(),
-        },
+        Err(stop) => without_answer(stop),
+    }
+}
+
+/// The outcome where there is no answer.
+fn without_answer(stop: Stop) -> Outcome
+    ensures status { result.status ≡ stop_number stop }
+    ensures front { result.front ≡ [] }
+    ensures held { result.held ≡ None }
+{
+    Outcome {
+        status: stop.number(),
+        front: Front::empty(),
+        held: None,
     }
 }
 
 /// Writes an answer.
 fn write_answer<W: Sink>(sink: &mut W, answer: Answer) -> Outcome
     ensures front { result.front ≡ answer.front }
+    ensures held { result.held ≡ answer.held }
     ensures written { IsWritten (W.held sink.old) (W.held sink.new) (W.faults sink.old) (W.faults sink.new)
         answer.status answer.text.items result.status }
     ensures later { W.faults sink.old ≤ W.faults sink.new }
@@ -59,30 +75,35 @@ fn write_answer<W: Sink>(sink: &mut W, answer: Answer) -> Outcome
     let Answer {
         status,
         front,
+        held,
         text,
     } = answer;
     match write_all(sink, text.as_slice()) {
         Ok(()) => Outcome {
             status: status.number(),
             front,
+            held,
         },
         Err(WriteFault) => Outcome {
             status: WRITE_FAULT,
             front,
+            held,
         },
     }
 }
 
 /// The answer that the command words and the source call for.
-fn answer<R: Source>(
+fn answer<T: Threads + Sync, R: Source, G: Gate>(
+    rt: &T,
     alloc: Global,
     words: &[String],
     source: &mut R,
     stats: &mut Vec<Box<dyn Statistic>>,
+    gate: &G,
 ) -> Result<Answer, Stop>
     requires { AreFresh (λ b. named b) (λ b. fed b) stats.old.items }
     ensures called { let reporters : List Reporter = map (λ b. record { name = named b; reports = reported b }) stats.old.items in
-        IfOk result (λ a. Called reporters (map string_bytes words.now) (R.left source.old) a.status a.front a.text.items) }
+        IfOk result (λ a. Called reporters (map string_bytes words.now) (R.left source.old) a.status a.front a.held a.text.items) }
     ensures read { let reporters : List Reporter = map (λ b. record { name = named b; reports = reported b }) stats.old.items in
         HasRead (λ s. R.left s) (λ s. R.faults s) reporters (map string_bytes words.now) source.old source.new
         (IsOk result) (IsErrOf result Stop.ReadFault) }
@@ -90,9 +111,9 @@ fn answer<R: Source>(
     let heard = hear(alloc, words, stats.as_slice())?;
     match heard {
         Heard::Refused { fault } => Ok(refused_words(alloc, fault)?),
-        Heard::Grow { places } => {
+        Heard::Grow { growers, places } => {
             let input = read_input(alloc, source)?;
-            Ok(grow(alloc, input, stats, &places)?)
+            Ok(grow(rt, alloc, input, growers, stats, &places, gate)?)
         }
         Heard::Census { shape } => Ok(count(alloc, &shape)?),
         Heard::Match { relabelling } => {

@@ -8,7 +8,7 @@ use Rattle.std.proofs.lemmas.List.Elements.{All-append, All-cons, All-nil, All-t
 use Rattle.std.proofs.lemmas.List.Sums.{sum_by-le}
 use Rattle.tensor_words.specs.Spaces.{SpaceType, size}
 use Rattle.job_text.specs.declared.commands.Command.{Command}
-use Rattle.job_text.specs.declared.commands.Command.TheVariants.{Add, Find, Look, Move, Wt, Eps, Phi}
+use Rattle.job_text.specs.declared.commands.Command.TheVariants.{Add, Find, Look, Move, Wt, Eps, Phi, Done}
 use Rattle.job_text.specs.Jobs.{IsCommand, IsScript, added_code, added_codes, roots_of}
 use Rattle.job_text.specs.Drafts.{Drafted, IsDraft, starts_from, starts_of}
 use Rattle.job_text.proofs.Ascending.{ascending_rises, ascending_all, ascending_few, ascending_some}
@@ -27,6 +27,7 @@ added_is_word s (Move a c) good = All-nil (λ n. n < size s)
 added_is_word s (Wt c) good = All-nil (λ n. n < size s)
 added_is_word s (Eps i c) good = All-nil (λ n. n < size s)
 added_is_word s (Phi i c) good = All-nil (λ n. n < size s)
+added_is_word s Done good = All-nil (λ n. n < size s)
 
 script_adds_words : (s : SpaceType) (script : List Command) → IsScript s script → All (λ n. n < size s) (added_codes script)
 script_adds_words s script good =
@@ -44,6 +45,7 @@ one_code (Move a c) = omega arith
 one_code (Wt c) = omega arith
 one_code (Eps i c) = omega arith
 one_code (Phi i c) = omega arith
+one_code Done = omega arith
 
 script_adds_few : (script : List Command) → length (added_codes script) ≤ length script
 script_adds_few script =

@@ -7,6 +7,7 @@ use Rattle.job_text.specs.declared.faults.JobWhy.TheVariants.{BadSpace, BadWord,
 use Rattle.job_text.specs.Judge.{judge, line_made, worded, ruled, made, placed, drafted, ended, has_room}
 use Rattle.job_text.specs.Rules.{rule_of, row_of, table}
 use Rattle.job_text.specs.declared.commands.Ask.TheVariants.{Tops}
+use Rattle.job_text.specs.declared.commands.Command.TheVariants.{Add, Done}
 use Rattle.crystal_cartan.specs.declared.types.Kind.TheVariants.{A}
 use Rattle.tensor_words.specs.declared.spaces.Factor.TheVariants.{Vector}
 use Rattle.tensor_words.specs.declared.spaces.Order.TheVariants.{Kashiwara}
@@ -154,6 +155,35 @@ row_order_alone = refl
 row_version_3 : judge (text (codes "crystal-job 3" ∷ codes "type A 1" ∷ [])) ≡ Err (record { line = 1; why = BadHeader })
 unfolding judge line_made worded ruled made placed drafted ended has_room rule_of row_of table text shape_of space_of base_size word_read token_digit letters
 row_version_3 = refl
+
+-- the command `done`, of version 2 alone
+
+row_done_one : judge (text (codes "crystal-job 1" ∷ codes "type A 1" ∷ codes "space v v" ∷ codes "start 1 1" ∷ codes "session" ∷ codes "done" ∷ [])) ≡ Err (record { line = 6; why = UnknownLine })
+unfolding judge line_made worded ruled made placed drafted ended has_room rule_of row_of table text shape_of space_of base_size word_read token_digit letters
+row_done_one = refl
+
+row_done_word : judge (text (codes "crystal-job 2" ∷ codes "type A 1" ∷ codes "space v v" ∷ codes "start 1 1" ∷ codes "session" ∷ codes "done 1 1" ∷ [])) ≡ Err (record { line = 6; why = UnknownLine })
+unfolding judge line_made worded ruled made placed drafted ended has_room rule_of row_of table text shape_of space_of base_size word_read token_digit letters
+row_done_word = refl
+
+row_done_early : judge (text (codes "crystal-job 2" ∷ codes "type A 1" ∷ codes "space v v" ∷ codes "start 1 1" ∷ codes "done" ∷ [])) ≡ Err (record { line = 5; why = Misplaced })
+unfolding judge line_made worded ruled made placed drafted ended has_room rule_of row_of table text shape_of space_of base_size word_read token_digit letters
+row_done_early = refl
+
+row_done_late : judge (text (codes "crystal-job 2" ∷ codes "type A 1" ∷ codes "space v v" ∷ codes "start 1 1" ∷ codes "session" ∷ codes "reflect 1" ∷ codes "done" ∷ [])) ≡ Err (record { line = 7; why = Misplaced })
+unfolding judge line_made worded ruled made placed drafted ended has_room rule_of row_of table text shape_of space_of base_size word_read token_digit letters
+row_done_late = refl
+
+done_asked :
+    judge (text (codes "crystal-job 2" ∷ codes "type A 1" ∷ codes "space v v" ∷ codes "start 1 1" ∷ codes "session" ∷ codes "add 2 1" ∷ codes "done" ∷ []))
+    ≡ Ok (record {
+      world = record { space = tensor_space (record { kind = A; rank = 1 }) (Vector ∷ Vector ∷ []); cells = 65536; roots = 0 ∷ 2 ∷ [] };
+      starts = 0 ∷ [];
+      scripts = (Add 2 ∷ Done ∷ []) ∷ [];
+      asks = [];
+    })
+unfolding judge line_made worded ruled made placed drafted ended has_room rule_of row_of table text shape_of space_of base_size word_read token_digit letters code_of
+done_asked = refl
 
 -- the order holds for the space, for the shape with its top word, and for `tops`
 kashiwara_space :

@@ -7,12 +7,12 @@ use Rattle.tensor_words.specs.Operators.{IsArrow}
 use Rattle.tensor_words.specs.Worlds.{IsWorld}
 use Rattle.tableau_reading.specs.Shapes.{IsShape}
 use Rattle.job_text.specs.declared.commands.Command.{Command}
-use Rattle.job_text.specs.declared.commands.Command.TheVariants.{Add, Find, Look, Move, Wt, Eps, Phi}
+use Rattle.job_text.specs.declared.commands.Command.TheVariants.{Add, Find, Look, Move, Wt, Eps, Phi, Done}
 use Rattle.job_text.specs.declared.commands.Ask.{Ask}
 use Rattle.job_text.specs.declared.commands.Ask.TheVariants.{Demazure, Tops, Reflect}
 use Rattle.job_text.specs.declared.jobs.Job.{Job}
 
--- a command speaks of a word of the space, and of an arrow or an index of its type
+-- a command speaks of a word of the space, and of an arrow or an index of its type; `done` of the whole graph
 abbrev pub IsCommand : SpaceType → Command → Type 0
 IsCommand s (Add c) = c < size s
 IsCommand s (Find c) = c < size s
@@ -21,6 +21,7 @@ IsCommand s (Move a c) = IsArrow s a × (c < size s)
 IsCommand s (Wt c) = c < size s
 IsCommand s (Eps i c) = HasIndex s.cartan i × (c < size s)
 IsCommand s (Phi i c) = HasIndex s.cartan i × (c < size s)
+IsCommand s Done = Unit {0}
 
 -- an ask speaks of indices of the type, and of shapes of the type in the space's tensor order
 abbrev pub IsAsk : SpaceType → Ask → Type 0

@@ -26,7 +26,7 @@ use Rattle.job_text.specs.declared.faults.JobWhy.TheVariants.{BadByte, BadHeader
 use Rattle.job_text.specs.declared.faults.JobWhy.TheVariants.{BadSpace, BadWord, BadIndex, CellsRange, Missing, TooMany}
 use Rattle.job_text.specs.declared.keys.Key.{Key}
 use Rattle.job_text.specs.declared.keys.Key.TheVariants.{Typing, Order, Shape, Space, Start, Cells, Session, Add, Find, Wt}
-use Rattle.job_text.specs.declared.keys.Key.TheVariants.{Lower, Raise, Look, Eps, Phi, Demazure, Tops, Reflect}
+use Rattle.job_text.specs.declared.keys.Key.TheVariants.{Lower, Raise, Look, Eps, Phi, Done, Demazure, Tops, Reflect}
 use Rattle.job_text.specs.declared.keys.Version.{Version}
 use Rattle.job_text.specs.declared.keys.Version.TheVariants.{One, Two}
 use Rattle.job_text.specs.declared.keys.Part.TheVariants as part
@@ -157,6 +157,7 @@ drafted Raise args d = commanded_at d args (λ i c. command.Move (arrow false i)
 drafted Eps args d = commanded_at d args (λ i c. command.Eps i c)
 drafted Phi args d = commanded_at d args (λ i c. command.Phi i c)
 drafted Look args d = commanded_at d (drop 1 args) (λ i c. command.Look (arrow (bytes_eq (at args 0) (codes "f")) i) c)
+drafted Done args d = Ok (with_command d command.Done)
 drafted Demazure args d = ok_map (λ list. with_ask d (ask.Demazure list)) (all_indexed d.space args)
 drafted Tops args d = ok_map (λ shape. with_ask d (ask.Tops shape)) (shaped d.space.order d.space.cartan args)
 drafted Reflect args d = ok_map (λ i. with_ask d (ask.Reflect i)) (indexed d.space (at args 0))

@@ -2,7 +2,7 @@
 use Rattle.std.specs.Prelude.{ℕ, ◌≡◌, ◌==◌, ◌&&◌, nat_le, Bool, true, false, if◌then◌else◌, List, [], ◌∷◌, Option, Some, None, codes, bytes_eq}
 use Rattle.job_text.specs.declared.keys.Key.{Key}
 use Rattle.job_text.specs.declared.keys.Key.TheVariants.{Typing, Order, Shape, Space, Start, Cells, Session, Add, Find, Wt}
-use Rattle.job_text.specs.declared.keys.Key.TheVariants.{Lower, Raise, Look, Eps, Phi, Demazure, Tops, Reflect}
+use Rattle.job_text.specs.declared.keys.Key.TheVariants.{Lower, Raise, Look, Eps, Phi, Done, Demazure, Tops, Reflect}
 use Rattle.job_text.specs.declared.keys.Version.{Version}
 use Rattle.job_text.specs.declared.keys.Version.TheVariants.{One, Two}
 use Rattle.job_text.specs.declared.keys.Part.{Part}
@@ -19,7 +19,7 @@ pub record Row : Type 0 where
 abbrev pub rule : Key → Version → Count → Part → Part → Part → Rule
 rule key since count first last next = record { key = key; since = since; count = count; first = first; last = last; next = next }
 
--- the rule of a command, and of an ask
+-- the rule of a command that every version has, and of an ask
 abbrev pub command_rule : Key → Count → Rule
 command_rule key count = rule key One count part.Session part.Session part.Session
 
@@ -48,6 +48,7 @@ table =
     ∷ row (codes "eps") (command_rule Eps (AtLeast 2))
     ∷ row (codes "phi") (command_rule Phi (AtLeast 2))
     ∷ row (codes "look") (command_rule Look (AtLeast 3))
+    ∷ row (codes "done") (rule Done Two (Exactly 0) part.Session part.Session part.Session)
     ∷ row (codes "demazure") (ask_rule Demazure (AtLeast 1))
     ∷ row (codes "tops") (ask_rule Tops (AtLeast 1))
     ∷ row (codes "reflect") (ask_rule Reflect (Exactly 1))

@@ -23,6 +23,8 @@ pub enum Command {
     Eps(u8, u64),
     /// The length of the lowering string at the word.
     Phi(u8, u64),
+    /// Asks whether the graph is closed.
+    Done,
 }
 
 /// An ask at the end of a job.

@@ -32,6 +32,7 @@ pub(crate) enum Key {
     Look,
     Eps,
     Phi,
+    Done,
     Demazure,
     Tops,
     Reflect,
@@ -111,6 +112,7 @@ fn row_of(word: &[u8]) -> Option<Rule>
         b"eps" => command_row(Key::Eps, AtLeast(2)),
         b"phi" => command_row(Key::Phi, AtLeast(2)),
         b"look" => command_row(Key::Look, AtLeast(3)),
+        b"done" => row(Key::Done, Two, Exactly(0), Session, Session, Session),
         b"demazure" => ask_row(Key::Demazure, AtLeast(1)),
         b"tops" => ask_row(Key::Tops, AtLeast(1)),
         b"reflect" => ask_row(Key::Reflect, Exactly(1)),
@@ -118,7 +120,7 @@ fn row_of(word: &[u8]) -> Option<Rule>
     })
 }
 
-/// The rule of a command.
+/// The rule of a command that every version has.
 fn command_row(key: Key, count: Count) -> Rule
     ensures { result ≡ command_rule key count }
 {

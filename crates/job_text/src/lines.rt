@@ -293,6 +293,7 @@ fn drafted(alloc: Global, key: Key, text: &[u8], draft: Draft) -> Result<Draft, 
             Ok(draft.with_command(Command::Phi(index, code))?)
         }
         Key::Look => looked(is_down(first(text)), behind(text), draft),
+        Key::Done => Ok(draft.with_command(Command::Done)?),
         Key::Demazure => {
             let indices = draft.indices(alloc, text)?;
             Ok(draft.with_ask(Ask::Demazure(indices))?)

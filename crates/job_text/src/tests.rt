@@ -65,9 +65,10 @@ fn up(index: u8) -> Arrow {
     Arrow { down: false, index }
 }
 
-const EVERY_WORD: &[u8] = b"crystal-job 1
+const EVERY_WORD: &[u8] = b"crystal-job 2
 # every key word
 type B 2
+order standard
 space v v
 start 1 1
   start 2  0
@@ -83,6 +84,7 @@ look f 1 1 1
 look e 2 1 1
 eps 1 2 2
 phi 2 2 2
+done
 
 demazure 1 2 1
 tops 1 1
@@ -107,11 +109,12 @@ fn every_key_word(rt: HostRuntime) {
         (1, 1, Command::Look(up(2), 0)),
         (1, 2, Command::Eps(1, 6)),
         (1, 3, Command::Phi(2, 6)),
+        (1, 4, Command::Done),
     ] {
         assert_eq!(rt; command(&job, session, place), Some(wanted));
     }
     assert_eq!(rt; command(&job, 0, 5), None);
-    assert_eq!(rt; command(&job, 1, 4), None);
+    assert_eq!(rt; command(&job, 1, 5), None);
     assert_eq!(rt; job.scripts.len(), 2);
     for (place, wanted) in [(0, Some(1)), (1, Some(2)), (2, Some(1)), (3, None)] {
         assert_eq!(rt; demazure_index(ask(&job, 0), place), wanted);

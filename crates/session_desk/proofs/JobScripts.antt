@@ -4,7 +4,7 @@ use Rattle.std.specs.List.{flat_map}
 use Rattle.std.proofs.lemmas.List.Concat.{flat_map-cons}
 use Rattle.std.proofs.lemmas.List.Elements.{Contains-append_left, Contains-append_right, Contains-get_or}
 use Rattle.job_text.specs.declared.commands.Command.{Command}
-use Rattle.job_text.specs.declared.commands.Command.TheVariants.{Add, Find, Look, Move, Wt, Eps, Phi}
+use Rattle.job_text.specs.declared.commands.Command.TheVariants.{Add, Find, Look, Move, Wt, Eps, Phi, Done}
 use Rattle.job_text.specs.declared.jobs.Job.{Job}
 use Rattle.job_text.specs.Jobs.{IsCommand, IsJob, added_code, added_codes}
 use Rattle.job_text.proofs.Ascending.{ascending_has}
@@ -29,6 +29,7 @@ command_asked j script (Move a x) is among there fits = fits
 command_asked j script (Wt x) is among there fits = fits
 command_asked j script (Eps i x) is among there fits = fits
 command_asked j script (Phi i x) is among there fits = fits
+command_asked j script Done is among there fits = tt
 
 pub scripts_asked : (j : Job) → IsJob j → All (All (IsAsked j.world)) j.scripts
 scripts_asked j is k d below m e within =

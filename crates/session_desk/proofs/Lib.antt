@@ -4,3 +4,4 @@ pub mod Apart
 pub mod JobScripts
 pub mod Worked
 pub mod AllRunning
+pub mod Owing

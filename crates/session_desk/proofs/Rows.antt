@@ -1,5 +1,5 @@
 -- What the acts of one command tell.
-use Rattle.std.proofs.Common.{◌≡◌, refl, sym, subst, ◌∙◌, ap, ℕ, ◌==◌, ◌&&◌, Bool, true, List, [], ◌∷◌, ◌++◌, Option, Some, None, append-nil, append_assoc, arith, ◌<◌}
+use Rattle.std.proofs.Common.{◌≡◌, refl, sym, subst, ◌∙◌, ap, ℕ, ◌==◌, ◌&&◌, if◌then◌else◌, Bool, true, false, List, [], ◌∷◌, ◌++◌, Option, Some, None, append-nil, append_assoc, arith, ◌<◌}
 use Rattle.std.proofs.lemmas.Bool.{eq-eqb}
 use Rattle.crystal_cartan.specs.declared.types.Arrow.{Arrow}
 use Rattle.tensor_words.specs.Spaces.{SpaceType, size}
@@ -8,14 +8,14 @@ use Rattle.tensor_words.specs.Worlds.{WorldType}
 use Rattle.graph_history.specs.declared.event.Origin.{Origin}
 use Rattle.graph_history.specs.declared.event.Origin.TheVariants.{Root, By}
 use Rattle.graph_history.specs.declared.event.Act.{Act}
-use Rattle.graph_history.specs.declared.event.Act.TheVariants.{Met, Missed, Drew, Saw, Blank}
+use Rattle.graph_history.specs.declared.event.Act.TheVariants.{Met, Missed, Drew, Saw, Blank, Tally}
 use Rattle.graph_history.specs.declared.event.Event.{Event}
 use Rattle.graph_history.specs.declared.answer.Added.{Added as AddedAnswer}
 use Rattle.graph_history.specs.declared.answer.Added.TheVariants as added
 use Rattle.graph_history.specs.declared.answer.Draw.{Draw}
 use Rattle.graph_history.specs.declared.answer.Draw.TheVariants as draws
 use Rattle.graph_history.specs.History.{state_of, HasVertex, HasSome, HasArrow, IsLegal}
-use Rattle.graph_history.specs.Desks.{by, Standing, Goes, Does, Entering, Drawing, IsEntry, Draws, cell_of, find_acts, met, spent, owed_met, owed_spent, saw_zero, saw, drew_zero, entered_drew, entered_saw, full}
+use Rattle.graph_history.specs.Desks.{by, Standing, Goes, Does, Entering, Drawing, IsEntry, Draws, cell_of, find_acts, met, spent, owed_met, owed_spent, saw_zero, saw, drew_zero, entered_drew, entered_saw, full, added_cells}
 use Rattle.graph_history.specs.Desks.{added as owed_added}
 use Rattle.graph_history.proofs.Histories.{own_edge, one_code, stays_append}
 use Rattle.graph_history.proofs.SoundStates.{sound}
@@ -23,12 +23,14 @@ use Rattle.graph_history.proofs.Growing.{by_append}
 use Rattle.graph_history.proofs.DeskSteps.{goes_still, goes_then, goes_within}
 use Rattle.graph_history.proofs.OwnActs as own
 use Rattle.job_text.specs.declared.commands.Command.{Command}
-use Rattle.job_text.specs.declared.commands.Command.TheVariants.{Add, Find, Look, Move}
+use Rattle.job_text.specs.declared.commands.Command.TheVariants.{Add, Find, Look, Move, Done}
 use Rattle.session_desk.specs.declared.reply.Reply.{Reply}
 use Rattle.session_desk.specs.declared.reply.Reply.TheVariants.{Absent, Undrawn, Zero, Full, Word}
-use Rattle.session_desk.specs.Replies.{Told, first, reply_if, then_if, is_at, is_root, is_by, drawn_reply, added_reply, found_reply, at_vertex, told_of, on_entry, on_look, on_move, behind_entry}
+use Rattle.session_desk.specs.declared.reply.Reply.TheVariants as reply
+use Rattle.session_desk.specs.Replies.{Told, first, reply_if, then_if, is_at, is_root, is_by, drawn_reply, added_reply, found_reply, debts_reply, at_vertex, told_of, on_entry, on_look, on_move, behind_entry}
 use Rattle.session_desk.specs.Sessions.{Replied, Answered}
 use Rattle.session_desk.specs.Texts.{IsPrintable}
+use Rattle.session_desk.proofs.Owing.{nothing_more, entry_owes, draws_owes}
 
 -- tests that hold
 self_eq : (x : ℕ) → (x == x) ≡ true
@@ -101,7 +103,7 @@ moved s n c x a answer acts (full y entry e is) rest =
 module _ {Bond : Type 0} where
   -- a command that takes no room may be said to take some
   pub replied_within : (old new : Standing Bond) (tell : List Event → Told) (reply : Reply) → Replied old new 0 tell reply → Replied old new 1 tell reply
-  replied_within old new tell reply r = record { acts = r.acts; goes = goes_within old new 0 1 r.acts (omega arith) r.goes; told = r.told; printable = r.printable }
+  replied_within old new tell reply r = record { acts = r.acts; goes = goes_within old new 0 1 r.acts (omega arith) r.goes; unpaid = r.unpaid; told = r.told; printable = r.printable }
 
   -- a value that is told of a word by its code alone
   pub value_told : (s : Standing Bond) (u : SpaceType) (k : Command) (value : SpaceType → Reply) (reply : Reply) → ((v : SpaceType) (rest : List Event) → told_of v k rest ≡ Some (value v, rest))
@@ -109,6 +111,7 @@ module _ {Bond : Type 0} where
   value_told s u k value reply row legal space is printable = record {
     acts = [];
     goes = goes_still s legal;
+    unpaid = nothing_more s.unpaid;
     told = λ rest. row s.world.space rest ∙ ap (λ (v : SpaceType). Some (value v, rest)) (sym space) ∙ ap (λ (r : Reply). Some (r, rest)) (sym is);
     printable = subst (λ (v : SpaceType). IsPrintable v reply) space printable;
   }
@@ -117,6 +120,7 @@ module _ {Bond : Type 0} where
   add_told old new x answer e = record {
     acts = e.acts;
     goes = e.does.goes;
+    unpaid = e.does.goes.unpaid ∙ entry_owes x Root answer e.acts e.entry old.unpaid;
     told = λ rest. entry_told is_root old.caller x Root (λ r behind. Some (added_reply r, behind)) answer e.acts refl e.entry rest;
     printable = printable answer;
   }
@@ -127,12 +131,26 @@ module _ {Bond : Type 0} where
       printable added.Full = tt
 
   pub find_told : (old new : Standing Bond) (x : ℕ) (found : Option ℕ) → Does old new 0 (find_acts x found) → Answered old new 0 (Find x) (found_reply found)
-  find_told old new x (Some c) d = record { acts = Met c x ∷ []; goes = d.goes; told = λ rest. reply_true (x == x) _ rest (self_eq x); printable = tt }
-  find_told old new x None d = record { acts = Missed x ∷ []; goes = d.goes; told = λ rest. reply_true (x == x) _ rest (self_eq x); printable = tt }
+  find_told old new x (Some c) d = record { acts = Met c x ∷ []; goes = d.goes; unpaid = d.goes.unpaid ∙ nothing_more old.unpaid; told = λ rest. reply_true (x == x) _ rest (self_eq x); printable = tt }
+  find_told old new x None d = record { acts = Missed x ∷ []; goes = d.goes; unpaid = d.goes.unpaid ∙ nothing_more old.unpaid; told = λ rest. reply_true (x == x) _ rest (self_eq x); printable = tt }
+
+  -- what `done` is told
+  pub done_told : (old new : Standing Bond) (n : ℕ) → Does old new 0 (Tally n ∷ []) → Answered old new 0 Done (debts_reply n)
+  done_told old new n d = record {
+    acts = Tally n ∷ [];
+    goes = d.goes;
+    unpaid = d.goes.unpaid ∙ nothing_more old.unpaid;
+    told = λ rest. refl;
+    printable = printable (n == 0);
+  }
+    where
+      printable : (none : Bool) → IsPrintable old.world.space (if none then reply.Done else reply.More)
+      printable true = tt
+      printable false = tt
 
   -- a command at a word that is not there, and at one that is
   absent : (old new : Standing Bond) (x : ℕ) (tell : ℕ → List Event → Told) → Does old new 0 (Missed x ∷ []) → Replied old new 0 (first (at_vertex x tell)) Absent
-  absent old new x tell d = record { acts = Missed x ∷ []; goes = d.goes; told = λ rest. reply_true (x == x) _ rest (self_eq x); printable = tt }
+  absent old new x tell d = record { acts = Missed x ∷ []; goes = d.goes; unpaid = d.goes.unpaid ∙ nothing_more old.unpaid; told = λ rest. reply_true (x == x) _ rest (self_eq x); printable = tt }
 
   pub look_absent : (old new : Standing Bond) (x : ℕ) (a : Arrow) → Does old new 0 (Missed x ∷ []) → Answered old new 0 (Look a x) Absent
   look_absent old new x a d = absent old new x (λ c rest. first (on_look (op old.world.space a x) c a) rest) d
@@ -149,6 +167,7 @@ module _ {Bond : Type 0} where
   present old mid new x c places tell reply d r = record {
     acts = Met c x ∷ r.acts;
     goes = goes_then old mid new 0 places places (Met c x ∷ []) r.acts (omega arith) d.goes r.goes;
+    unpaid = r.unpaid ∙ ap (λ (cells : List ℕ). cells ++ added_cells r.acts) d.goes.unpaid;
     told = λ rest. then_true (x == x) _ (self_eq x) ∙ subst (λ (n : ℕ). tell c (by n r.acts ++ rest) ≡ Some (reply, rest)) d.goes.caller (r.told rest);
     printable = subst (λ (w : WorldType). IsPrintable w.space reply) d.goes.world r.printable;
   }
@@ -189,7 +208,7 @@ module _ {Bond : Type 0} where
 
   -- a look at an arrow of the vertex of a cell
   pub look_blank : (old new : Standing Bond) (o : Option ℕ) (c : ℕ) (a : Arrow) → Does old new 0 (Blank c a ∷ []) → Replied old new 0 (first (on_look o c a)) Undrawn
-  look_blank old new o c a d = record { acts = Blank c a ∷ []; goes = d.goes; told = λ rest. reply_true (is_at c a c a) _ rest (at_self c a); printable = tt }
+  look_blank old new o c a d = record { acts = Blank c a ∷ []; goes = d.goes; unpaid = d.goes.unpaid ∙ nothing_more old.unpaid; told = λ rest. reply_true (is_at c a c a) _ rest (at_self c a); printable = tt }
 
   pub look_drawn : (old new : Standing Bond) (c : ℕ) (a : Arrow) (t : Option ℕ) → Does old new 0 (Saw c a t ∷ []) → HasArrow (state_of new.front) c a t
   look_drawn old new c a t d = own.saw_drawn old.world old.caller old.front new.front [] c a t [] d.goes.grows
@@ -198,7 +217,7 @@ module _ {Bond : Type 0} where
       → Replied old new 0 (first (on_look (op old.world.space a x) c a)) Zero
   look_zero old new c x a there d =
       let zero = zero_led old new c x 0 a (Saw c a None ∷ []) there d.goes (look_drawn old new c a None d) in
-      record { acts = Saw c a None ∷ []; goes = d.goes; told = λ rest. rw zero (reply_true (is_at c a c a) Zero rest (at_self c a)); printable = tt }
+      record { acts = Saw c a None ∷ []; goes = d.goes; unpaid = d.goes.unpaid ∙ nothing_more old.unpaid; told = λ rest. rw zero (reply_true (is_at c a c a) Zero rest (at_self c a)); printable = tt }
 
   pub look_word : (old mid new : Standing Bond) (c x t y : ℕ) (a : Arrow) → HasVertex (state_of old.front) c x → Does old mid 0 (Saw c a (Some t) ∷ [])
       → Goes mid new 0 [] → HasVertex (state_of new.front) t y → Replied old new 0 (first (on_look (op old.world.space a x) c a)) (Word y)
@@ -207,6 +226,7 @@ module _ {Bond : Type 0} where
       record {
         acts = Saw c a (Some t) ∷ [];
         goes = goes_on old mid new 0 (Saw c a (Some t) ∷ []) d.goes rest_of;
+        unpaid = rest_of.unpaid ∙ d.goes.unpaid ∙ nothing_more old.unpaid;
         told = λ rest. rw led.0 (reply_true (is_at c a c a) (Word y) rest (at_self c a));
         printable = led.1;
       }
@@ -222,15 +242,18 @@ module _ {Bond : Type 0} where
       let drawn : Draws old.world.space c a x answer d.acts = subst (λ (y : ℕ). Draws old.world.space c a y answer d.acts) same d.draws in
       moved old.world.space old.caller c x a answer d.acts drawn rest ∙ ap (λ (r : Reply). Some (r, rest)) is
 
+  draw_owes : (old new : Standing Bond) (c : ℕ) (a : Arrow) (answer : Draw) → (d : Drawing old new c a answer) → new.unpaid ≡ old.unpaid ++ added_cells d.acts
+  draw_owes old new c a answer d = d.does.goes.unpaid ∙ draws_owes old.world.space c a d.code answer d.acts d.draws old.unpaid
+
   pub move_full : (old new : Standing Bond) (c x : ℕ) (a : Arrow) → HasVertex (state_of old.front) c x → Drawing old new c a draws.Full
       → Replied old new 1 (first (on_move (op old.world.space a x) c a)) Full
-  move_full old new c x a there d = record { acts = d.acts; goes = d.does.goes; told = draw_told old new c x a draws.Full Full there d refl; printable = tt }
+  move_full old new c x a there d = record { acts = d.acts; goes = d.does.goes; unpaid = draw_owes old new c a draws.Full d; told = draw_told old new c x a draws.Full Full there d refl; printable = tt }
 
   pub move_zero : (old new : Standing Bond) (c x : ℕ) (a : Arrow) → HasVertex (state_of old.front) c x → Drawing old new c a draws.Zero
       → Replied old new 1 (first (on_move (op old.world.space a x) c a)) Zero
   move_zero old new c x a there d =
       let zero = zero_led old new c x 1 a d.acts there d.does.goes (move_drawn old new c a None draws.Zero d refl) in
-      record { acts = d.acts; goes = d.does.goes; told = draw_told old new c x a draws.Zero Zero there d (ap drawn_reply zero); printable = tt }
+      record { acts = d.acts; goes = d.does.goes; unpaid = draw_owes old new c a draws.Zero d; told = draw_told old new c x a draws.Zero Zero there d (ap drawn_reply zero); printable = tt }
 
   pub move_word : (old mid new : Standing Bond) (c x t y : ℕ) (a : Arrow) → HasVertex (state_of old.front) c x → Drawing old mid c a (draws.To t)
       → Goes mid new 0 [] → HasVertex (state_of new.front) t y → Replied old new 1 (first (on_move (op old.world.space a x) c a)) (Word y)
@@ -239,6 +262,7 @@ module _ {Bond : Type 0} where
       record {
         acts = d.acts;
         goes = goes_on old mid new 1 d.acts d.does.goes rest_of;
+        unpaid = rest_of.unpaid ∙ draw_owes old mid c a (draws.To t) d;
         told = draw_told old mid c x a (draws.To t) (Word y) there d (ap drawn_reply led.0);
         printable = led.1;
       }

@@ -9,7 +9,7 @@ use Rattle.tensor_words.specs.Worlds.{WorldType}
 use Rattle.graph_history.specs.declared.event.Event.{Event}
 use Rattle.graph_history.specs.declared.event.Act.{Act}
 use Rattle.graph_history.specs.History.{IsLegal}
-use Rattle.graph_history.specs.Desks.{by, Standing, Goes}
+use Rattle.graph_history.specs.Desks.{by, Standing, Goes, added_cells}
 use Rattle.graph_history.proofs.Growing.{by_append}
 use Rattle.graph_history.proofs.DeskSteps.{goes_still, goes_then}
 use Rattle.job_text.specs.declared.commands.Command.{Command}
@@ -17,11 +17,13 @@ use Rattle.session_desk.specs.declared.reply.Reply.{Reply}
 use Rattle.session_desk.specs.Replies.{Told, told_of, replies}
 use Rattle.session_desk.specs.Sessions.{IsAsked, Answered, Ran}
 use Rattle.session_desk.specs.Texts.{IsPrintable}
+use Rattle.session_desk.proofs.Owing.{nothing_more, unpaid_on}
 
 -- the first commands of a script are done, whatever commands and events come behind
 pub record Going {Bond : Type 0} (old now : Standing Bond) (done : List Command) (before after : List Reply) : Type 0 where
   pub acts : List Act
   pub goes : Goes old now (length done) acts
+  pub unpaid : now.unpaid ≡ old.unpaid ++ added_cells acts
   pub told : List Reply
   pub appended : after ≡ before ++ told
   pub run : (rest : List Command) (es : List Event) →
@@ -58,6 +60,7 @@ module _ {Bond : Type 0} where
   going_start s done before none legal = rw none (record {
     acts = [];
     goes = goes_still s legal;
+    unpaid = nothing_more s.unpaid;
     told = [];
     appended = sym (append-nil before);
     run = λ rest es. none_before (replies s.world.space rest es);
@@ -75,6 +78,7 @@ module _ {Bond : Type 0} where
       rw one (record {
         acts = g.acts ++ a.acts;
         goes = goes_then old mid new (length done) 1 (length (done ++ k ∷ [])) g.acts a.acts (omega arith) g.goes a.goes;
+        unpaid = unpaid_on old.unpaid mid.unpaid new.unpaid g.acts a.acts g.unpaid a.unpaid;
         told = g.told ++ reply ∷ [];
         appended = added ∙ ap (λ (l : List Reply). l ++ reply ∷ []) g.appended ∙ append_assoc before g.told (reply ∷ []);
         run = λ rest es. ap₂ (λ (ks : List Command) (l : List Event). replies old.world.space ks l) (append_assoc done (k ∷ []) rest)
@@ -96,6 +100,7 @@ module _ {Bond : Type 0} where
   going_end old new done script before after all g = rw (← all) (record {
     acts = g.acts;
     goes = g.goes;
+    unpaid = g.unpaid;
     told = g.told;
     appended = g.appended;
     printable = g.printable;

@@ -11,10 +11,11 @@ use Rattle.tensor_words.specs.Codes.{code_of, word_of}
 use Rattle.tensor_words.specs.TensorRule.{action}
 use Rattle.tensor_words.specs.Operators.{op}
 use Rattle.graph_history.specs.declared.event.Origin.TheVariants.{Root, By}
-use Rattle.graph_history.specs.declared.event.Act.TheVariants.{Added, Met, Missed, Spent, Drew, Saw, Blank, Owed, Settled}
+use Rattle.graph_history.specs.declared.event.Act.TheVariants.{Added, Met, Missed, Spent, Drew, Saw, Blank, Owed, Settled, Tally}
 use Rattle.graph_history.specs.Desks.{by}
 use Rattle.job_text.specs.declared.commands.Command.TheVariants.{Add, Find, Look, Move, Wt, Eps}
-use Rattle.session_desk.specs.declared.reply.Reply.TheVariants.{New, Old, There, Absent, Undrawn, Word, Full, Number, Weight}
+use Rattle.job_text.specs.declared.commands.Command.TheVariants as command
+use Rattle.session_desk.specs.declared.reply.Reply.TheVariants.{New, Old, There, Absent, Undrawn, Word, Full, Number, Weight, Done, More}
 use Rattle.session_desk.specs.Replies.{replies, weight_at, eps_at}
 
 abbrev words : SpaceType
@@ -73,3 +74,19 @@ other_component : replies words (Find 2 ∷ Move f 2 ∷ Wt 2 ∷ Eps 1 3 ∷ []
     ≡ Some (Absent ∷ Absent ∷ Weight (pos 2 ∷ pos 2 ∷ []) ∷ Number 2 ∷ [])
 unfolding weight_at eps_at word_weight base_weight letter_weight action base_action digit_action letter_action vector_edges letters base_size word_of
 other_component = refl
+
+-- `done` is told from one tally: no debt, some debts; none was taken, another event stands in its place, one is left over
+none_owed : replies words (command.Done ∷ []) (by 1 (Tally 0 ∷ [])) ≡ Some (Done ∷ [])
+none_owed = refl
+
+some_owed : replies words (Add 2 ∷ command.Done ∷ []) (by 1 (Owed ∷ Added 0 2 Root ∷ Tally 3 ∷ [])) ≡ Some (New ∷ More ∷ [])
+some_owed = refl
+
+not_counted : replies words (command.Done ∷ []) [] ≡ None
+not_counted = refl
+
+not_a_tally : replies words (command.Done ∷ []) (by 1 (Met 0 0 ∷ [])) ≡ None
+not_a_tally = refl
+
+counted_twice : replies words (command.Done ∷ []) (by 1 (Tally 1 ∷ Tally 0 ∷ [])) ≡ None
+counted_twice = refl

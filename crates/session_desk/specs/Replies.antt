@@ -1,5 +1,5 @@
 -- The replies of a script, told from the events of its caller.
-use Rattle.std.specs.Prelude.{ℕ, ◌==◌, ◌&&◌, Bool, true, false, List, [], ◌∷◌, Option, Some, None, ℤ}
+use Rattle.std.specs.Prelude.{ℕ, ◌==◌, ◌&&◌, Bool, true, false, if◌then◌else◌, List, [], ◌∷◌, Option, Some, None, ℤ}
 use Rattle.std.specs.Option.{option_map, option_and_then}
 use Rattle.crystal_cartan.specs.declared.types.Arrow.{Arrow}
 use Rattle.tensor_words.specs.Spaces.{SpaceType, word_weight}
@@ -9,15 +9,16 @@ use Rattle.tensor_words.specs.Operators.{op}
 use Rattle.graph_history.specs.declared.event.Origin.{Origin}
 use Rattle.graph_history.specs.declared.event.Origin.TheVariants.{Root, By}
 use Rattle.graph_history.specs.declared.event.Act.{Act}
-use Rattle.graph_history.specs.declared.event.Act.TheVariants.{Added, Met, Missed, Spent, Drew, Saw, Blank, Owed, Settled}
+use Rattle.graph_history.specs.declared.event.Act.TheVariants.{Added, Met, Missed, Spent, Drew, Saw, Blank, Owed, Settled, Tally}
 use Rattle.graph_history.specs.declared.event.Event.{Event}
 use Rattle.graph_history.specs.History.{same_arrow}
 use Rattle.graph_history.specs.declared.answer.Added.{Added as AddedAnswer}
 use Rattle.graph_history.specs.declared.answer.Added.TheVariants as added
 use Rattle.job_text.specs.declared.commands.Command.{Command}
 use Rattle.job_text.specs.declared.commands.Command.TheVariants.{Add, Find, Look, Move, Wt, Eps, Phi}
+use Rattle.job_text.specs.declared.commands.Command.TheVariants as command
 use Rattle.session_desk.specs.declared.reply.Reply.{Reply}
-use Rattle.session_desk.specs.declared.reply.Reply.TheVariants.{New, Old, There, Absent, Undrawn, Zero, Word, Full, Number, Weight}
+use Rattle.session_desk.specs.declared.reply.Reply.TheVariants.{New, Old, There, Absent, Undrawn, Zero, Word, Full, Number, Weight, Done, More}
 
 -- a reply, and the events behind those that it was told from
 abbrev pub Told : Type 0
@@ -134,6 +135,14 @@ on_move o c a (Saw d b t) rest = reply_if (is_at c a d b) (drawn_reply o) rest
 on_move o c a (Drew d b None) rest = reply_if (is_at c a d b && is_zero o) Zero rest
 on_move o c a act rest = of_word o (λ y. on_entry (is_by c a) y (behind_entry c a y) act rest)
 
+-- `done`: the debts are told, and the graph is closed where there is none
+abbrev pub debts_reply : ℕ → Reply
+debts_reply n = if n == 0 then Done else More
+
+abbrev pub on_done : Act → List Event → Told
+on_done (Tally n) rest = Some (debts_reply n, rest)
+on_done _ rest = None
+
 -- the weight of the word with a code, and the lengths of its strings at an index
 unfoldable pub weight_at : SpaceType → ℕ → List ℤ
 weight_at s x = word_weight s (word_of s x)
@@ -153,6 +162,7 @@ told_of s (Move a x) es = first (at_vertex x (λ c rest. first (on_move (op s a 
 told_of s (Wt x) es = Some (Weight (weight_at s x), es)
 told_of s (Eps i x) es = Some (Number (eps_at s i x), es)
 told_of s (Phi i x) es = Some (Number (phi_at s i x), es)
+told_of s command.Done es = first on_done es
 
 -- the replies of a script whose caller has just these events; None where they are not those of the script
 abbrev pub replies : SpaceType → List Command → List Event → Option (List Reply)

@@ -5,7 +5,7 @@ use Rattle.tensor_words.specs.Spaces.{SpaceType, size}
 use Rattle.tensor_words.specs.Codes.{word_of}
 use Rattle.tableau_reading.specs.Texts.{word_text, weight_text}
 use Rattle.session_desk.specs.declared.reply.Reply.{Reply}
-use Rattle.session_desk.specs.declared.reply.Reply.TheVariants.{New, Old, There, Absent, Undrawn, Zero, Word, Full, Number, Weight}
+use Rattle.session_desk.specs.declared.reply.Reply.TheVariants.{New, Old, There, Absent, Undrawn, Zero, Word, Full, Number, Weight, Done, More}
 
 -- a reply that can be printed: a word of the space, a weight with small coordinates, and all others
 abbrev pub IsPrintable : SpaceType → Reply → Type 0
@@ -25,3 +25,5 @@ reply_text s Full = codes "full"
 reply_text s (Word x) = word_text s (word_of s x)
 reply_text s (Number n) = decimal n
 reply_text s (Weight w) = weight_text w
+reply_text s Done = codes "done"
+reply_text s More = codes "more"

@@ -5,7 +5,7 @@ ghost use Rattle.tensor_words.specs.Spaces.{size};
 ghost use Rattle.tensor_words.specs.Operators.{IsArrow, op};
 ghost use Rattle.graph_history.specs.History.{state_of, HasVertex};
 ghost use Rattle.job_text.specs.declared.commands.Command.TheVariants as asked;
-ghost use Rattle.session_desk.specs.Replies.{first, on_look, on_move, added_reply, found_reply};
+ghost use Rattle.session_desk.specs.Replies.{first, on_look, on_move, added_reply, found_reply, debts_reply};
 ghost use Rattle.session_desk.specs.Sessions.{IsAsked, Replied, Answered};
 
 use crate::reply::Reply;
@@ -28,6 +28,7 @@ pub(crate) fn answer<D: Desk>(desk: &mut D, command: &Command) -> Reply
         Command::Wt(code) => weigh(desk, code),
         Command::Eps(index, code) => count_raises(desk, index, code),
         Command::Phi(index, code) => count_lowers(desk, index, code),
+        Command::Done => ask_debts(desk),
     }
 }
 
@@ -143,4 +144,17 @@ fn count_lowers<D: Desk>(desk: &D, index: u8, code: u64) -> Reply
 {
     let space = desk.space();
     phi(space, index, code)
+}
+
+fn ask_debts<D: Desk>(desk: &mut D) -> Reply
+    ensures { Answered (D.standing desk.old) (D.standing desk.new) 0 asked.Done result }
+{
+    let debts = desk.tally();
+    reply_to_debts(debts)
+}
+
+fn reply_to_debts(debts: u64) -> Reply
+    ensures { result ≡ debts_reply debts }
+{
+    if debts == 0 { Reply::Done } else { Reply::More }
 }

@@ -31,10 +31,14 @@ pub enum Reply {
     Number(u32),
     /// The weight of the word.
     Weight(Weight),
+    /// There is no debt: the graph is closed.
+    Done,
+    /// There are debts: the graph may still grow.
+    More,
 }
 
 /// Prints a reply into an empty line: `new`, `old`, `there`, `absent`, `open` (for `Undrawn`), `zero`, `full`, a word, a
-/// number or a weight.
+/// number, a weight, `done` or `more`.
 #[tactic(auto, unfolding(crate::specs::Texts::reply_text))]
 pub fn reply_line(space: &Space, reply: &Reply, out: &mut Line)
     requires empty { out.old ≡ [] }
@@ -53,5 +57,7 @@ pub fn reply_line(space: &Space, reply: &Reply, out: &mut Line)
         Reply::Word(code) => print_word(space, &word_with(space, *code), out),
         Reply::Number(number) => out.number(i64::from(*number)),
         Reply::Weight(weight) => print_weight(weight, out),
+        Reply::Done => out.text(b"done"),
+        Reply::More => out.text(b"more"),
     }
 }

@@ -43,9 +43,9 @@ fn are_told(told: &[Replies], expected: &[&[Reply]]) -> bool {
 
 #[test]
 fn sessions(rt: HostRuntime) -> Result<(), NoMemory> {
-    let text = "crystal-job 1\ntype A 1\nspace v v\nstart 1 1\ncells 3\n\
-        session\nfind 2 1\nf 1 2 1\nwt 2 1\neps 1 2 2\n\
-        session\nadd 2 1\nfind 2 1\n\
+    let text = "crystal-job 2\ntype A 1\nspace v v\nstart 1 1\ncells 3\n\
+        session\ndone\nfind 2 1\nf 1 2 1\nwt 2 1\neps 1 2 2\n\
+        session\nadd 2 1\nfind 2 1\ndone\n\
         session\nadd 2 1\n\
         session\nadd 1 1\nlook f 1 1 1\nf 1 1 1\nlook f 1 1 1\ne 1 1 1\nphi 1 1 1\nf 1 1 2\n";
     let told = told(rt.alloc(), text)?.expect(&rt, "the job is accepted");
@@ -55,12 +55,13 @@ fn sessions(rt: HostRuntime) -> Result<(), NoMemory> {
             told.as_slice(),
             &[
                 &[
+                    Reply::Done,
                     Reply::Absent,
                     Reply::Absent,
                     Reply::Weight(weight),
                     Reply::Number(2)
                 ],
-                &[Reply::New, Reply::There],
+                &[Reply::New, Reply::There, Reply::More],
                 &[Reply::Old],
                 &[
                     Reply::New,
@@ -102,6 +103,8 @@ fn lines(rt: HostRuntime) {
     assert!(rt; is_printed(&space, &Reply::Zero, "zero"));
     assert!(rt; is_printed(&space, &Reply::Full, "full"));
     assert!(rt; is_printed(&space, &Reply::Number(40), "40"));
+    assert!(rt; is_printed(&space, &Reply::Done, "done"));
+    assert!(rt; is_printed(&space, &Reply::More, "more"));
     let word = space.word_of(2).expect(&rt, "there are four words");
     assert!(rt; is_printed(&space, &Reply::Word(2), "2 1"));
     assert!(rt; is_printed(&space, &Reply::Weight(space.weight(&word)), "1 1"));

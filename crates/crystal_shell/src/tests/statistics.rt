@@ -4,11 +4,12 @@ ghost use Rattle.std.specs.Prelude.{◌≡◌, [], IfOk};
 use super::{ROOM, job, strings};
 use crate::top::run;
 use crystal_characters::{Item, Statistic};
-use crystal_streams::{MemorySink, MemorySource, NoMemory};
+use crystal_streams::{MemorySink, MemorySource, NoMemory, OpenGate};
 use std::alloc::{AllocError, Global};
 use std::cell::Cell;
 use std::rc::Rc;
 use std::test::Fail;
+use std::thread::Threads;
 
 /// A statistic that reports nothing, and counts how often it is fed and dropped.
 struct Counted {
@@ -84,7 +85,8 @@ impl Counts {
 }
 
 /// The status of a run with two such statistics, which have one name.
-fn status_of_two(
+fn status_of_two<T: Threads + Sync>(
+    rt: &T,
     alloc: Global,
     words: &[String],
     source: &mut MemorySource,
@@ -98,12 +100,13 @@ fn status_of_two(
     let mut stats: Vec<Box<dyn Statistic>> = Vec::new(alloc);
     stats.push(Box::new(alloc, first)?)?;
     stats.push(Box::new(alloc, second)?)?;
-    Ok(run(alloc, words, source, sink, stats).status)
+    Ok(run(rt, alloc, words, source, sink, stats, &OpenGate).status)
 }
 
 /// The status of such a run, and how often the first and the second statistic were fed and dropped, where the reads
 /// and writes of these numbers fail.
-fn run_counted(
+fn run_counted<T: Threads + Sync>(
+    rt: &T,
     alloc: Global,
     words: &[&str],
     text: &str,
@@ -116,6 +119,7 @@ fn run_counted(
     let first = Counts::new(alloc)?;
     let second = Counts::new(alloc)?;
     let ended = status_of_two(
+        rt,
         alloc,
         words.as_slice(),
         &mut source,
@@ -146,7 +150,7 @@ fn statistics_are_dropped_once(rt: HostRuntime) -> Result<(), Fail> {
         (["grow", "1", "counted"].as_slice(), whole, 1, 9, 4, 0),
         (["grow", "1", "counted"].as_slice(), whole, 9, 1, 5, 8),
     ] {
-        let ended = run_counted(rt.alloc(), words, text, read, write)?;
+        let ended = run_counted(&rt, rt.alloc(), words, text, read, write)?;
         assert!(rt; ended == (status, (feeds, 1), (0, 1)));
     }
     Ok(())

@@ -1,4 +1,4 @@
-use Rattle.crystal_shell.proofs.Texts.{long_input, read_input_is}
+use Rattle.crystal_shell.proofs.Texts.{long_input}
 use Rattle.crystal_shell.proofs.inputs.read_input.Goals as goal
 
 pub returns-in-Err-TooLong-clause-judged : goal.returns-in-Err-TooLong-clause-judged
