@@ -29,9 +29,10 @@ KEYS = {
     **{key: (1, True, ["session"]) for key in ("add", "find", "wt")},
     **{key: (2, True, ["session"]) for key in ("f", "e", "eps", "phi")},
     "look": (3, True, ["session"]),
+    "done": (0, False, ["session"]),
 }
 ASKS = ("demazure", "tops", "reflect")
-PIECES = "order standard kashiwara type shape space start cells session add look demazure tops reflect f e 0 -0 00 -1 9 10 257 65537".split()
+PIECES = "order standard kashiwara type shape space start cells session add look done demazure tops reflect f e 0 -0 00 -1 9 10 257 65537".split()
 PIECES += "1000000000 1048577 -01 +1 # v s s+ ++ +- A E".split() + [" ", "\t", "\r", "\n", "\x7f", "crystal-job 1", "crystal-job 2"]
 
 
@@ -105,7 +106,7 @@ class Judge:
 
     def line(self, line):
         key, *words = line.split(" ")
-        if key not in KEYS or (key == "order" and self.version == 1):
+        if key not in KEYS or (key in ("order", "done") and self.version == 1):
             return 3
         least, more, parts = KEYS[key]
         if len(words) < least or (len(words) > least and not more) or (key == "look" and words[0] not in ("f", "e")):
@@ -161,6 +162,8 @@ class Judge:
             if key != "tops" and not all(self.is_index(word) for word in words):
                 return 10
             self.asks, self.part = self.asks + 1, "asks"
+        elif key == "done":
+            self.commands += 1
         else:
             before = {"look": 2, "add": 0, "find": 0, "wt": 0}.get(key, 1)
             if before and not self.is_index(words[before - 1]):

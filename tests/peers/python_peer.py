@@ -5,207 +5,18 @@ Usage: tests/peers/python_peer.py [JOBS] [SEED]    (200 jobs, and one as the see
 
 Each job has a version, a type, a tensor order, a space of one to three factors or a shape, starts, sessions and asks; a
 fifth of them have few cells. The model keeps sets and dictionaries, computes operators by the two-factor rule of the
-order, and writes the whole answer; both answers must be the same bytes. Last, for one job in each type, the component in
-Kashiwara's order must be that of the reversed factors and words in the standard order. The program must be built
-(./crystal grow 1 < jobs/first.job builds it).
+order, and writes the whole answer but for the replies of the sessions: these must be the same bytes, by 1 to 16
+growers in turn. The replies must be those of some legal history (history_peer.py). Last, for one job in each type, the
+component in Kashiwara's order must be that of the reversed factors and words in the standard order. The program must be
+built (./crystal grow 1 < jobs/first.job builds it).
 """
 import random
 import subprocess
 import sys
 from collections import Counter
-from fractions import Fraction
-from itertools import product
-from pathlib import Path
 
-TOP = Path(__file__).resolve().parents[2]
-PROGRAM = TOP / "crates" / "crystal_shell" / "out" / "crystal_shell"
-STANDARD, KASHIWARA = "standard", "kashiwara"
-
-
-class Crystal:
-    """A tensor product of vector and spin crystals of one type. A word is a tuple of letters and sign vectors."""
-
-    def __init__(self, kind, rank, factors, order=STANDARD):
-        self.kind, self.rank, self.factors, self.order = kind, rank, factors, order
-        self.bases = [self.base(factor) for factor in factors]
-        self.places = [{x: n for n, x in enumerate(base)} for base in self.bases]
-
-    def base(self, factor):
-        r = self.rank
-        if factor == "v":
-            if self.kind == "A":
-                return list(range(1, r + 2))
-            middle = [0] if self.kind == "B" else []
-            return list(range(1, r + 1)) + middle + list(range(-r, 0))
-        vectors = product((1, -1), repeat=r)
-        if factor == "s":
-            return list(vectors)
-        odd = factor == "s-"
-        return [v for v in vectors if (v.count(-1) % 2 == 1) == odd]
-
-    def lower_one(self, x, i):
-        r, kind = self.rank, self.kind
-        if isinstance(x, tuple):
-            y = list(x)
-            if i < r:
-                if x[i - 1 : i + 1] != (1, -1):
-                    return None
-                y[i - 1], y[i] = -1, 1
-            elif kind == "B":
-                if x[r - 1] != 1:
-                    return None
-                y[r - 1] = -1
-            else:
-                if x[r - 2 :] != (1, 1):
-                    return None
-                y[r - 2 :] = [-1, -1]
-            return tuple(y)
-        if i < r or kind == "A":
-            return {i: i + 1, **({} if kind == "A" else {-(i + 1): -i})}.get(x)
-        return {"B": {r: 0, 0: -r}, "C": {r: -r}, "D": {r - 1: -r, r: -(r - 1)}}[kind].get(x)
-
-    def raise_one(self, x, i, base):
-        return next((y for y in base if self.lower_one(y, i) == x), None)
-
-    def strings_one(self, x, i, base):
-        eps = phi = 0
-        y = self.raise_one(x, i, base)
-        while y is not None:
-            eps, y = eps + 1, self.raise_one(y, i, base)
-        y = self.lower_one(x, i)
-        while y is not None:
-            phi, y = phi + 1, self.lower_one(y, i)
-        return eps, phi
-
-    def strings(self, word, i, at=0):
-        eps, phi = self.strings_one(word[0], i, self.bases[at])
-        if len(word) == 1:
-            return eps, phi
-        eps_rest, phi_rest = self.strings(word[1:], i, at + 1)
-        if self.order == KASHIWARA:
-            return eps + max(0, eps_rest - phi), phi_rest + max(0, phi - eps_rest)
-        return eps_rest + max(0, eps - phi_rest), phi + max(0, phi_rest - eps)
-
-    def act(self, word, down, i, at=0):
-        first, rest, base = word[0], word[1:], self.bases[at]
-        if rest and self.on_rest(first, rest, down, i, at):
-            moved = self.act(rest, down, i, at + 1)
-            return None if moved is None else (first,) + moved
-        moved = self.lower_one(first, i) if down else self.raise_one(first, i, base)
-        return None if moved is None else (moved,) + rest
-
-    def on_rest(self, first, rest, down, i, at):
-        """Whether the operator acts on the factors behind the first."""
-        (eps, phi), (eps_rest, phi_rest) = self.strings_one(first, i, self.bases[at]), self.strings(rest, i, at + 1)
-        if self.order == KASHIWARA:
-            return phi <= eps_rest if down else phi < eps_rest
-        return phi_rest > eps if down else phi_rest >= eps
-
-    def weight(self, word):
-        size = self.rank + 1 if self.kind == "A" else self.rank
-        total = [Fraction(0)] * size
-        for x in word:
-            if isinstance(x, tuple):
-                total = [t + Fraction(s, 2) for t, s in zip(total, x)]
-            elif x:
-                total[abs(x) - 1] += 1 if x > 0 else -1
-        return total
-
-    def pairing(self, weight, i):
-        r = self.rank
-        if i < r or self.kind == "A":
-            return weight[i - 1] - weight[i]
-        return {"B": 2 * weight[r - 1], "C": weight[r - 1], "D": weight[r - 2] + weight[r - 1]}[self.kind]
-
-    def key(self, word):
-        return tuple(places[x] for places, x in zip(self.places, word))
-
-    def random_word(self, chance):
-        return tuple(chance.choice(base) for base in self.bases)
-
-    def component(self, roots):
-        seen, todo = set(roots), list(roots)
-        while todo:
-            word = todo.pop()
-            for i in range(1, self.rank + 1):
-                for down in (True, False):
-                    moved = self.act(word, down, i)
-                    if moved is not None and moved not in seen:
-                        seen.add(moved)
-                        todo.append(moved)
-        return sorted(seen, key=self.key)
-
-
-class Mirrored(Crystal):
-    """Words in Kashiwara's order by the standard order of the reversed words over the reversed factors."""
-
-    def __init__(self, kind, rank, factors):
-        super().__init__(kind, rank, factors)
-        self.mirror = Crystal(kind, rank, factors[::-1])
-
-    def act(self, word, down, i, at=0):
-        moved = self.mirror.act(word[::-1], down, i)
-        return None if moved is None else moved[::-1]
-
-
-def text(word):
-    return " ".join("".join("+" if s > 0 else "-" for s in x) if isinstance(x, tuple) else str(x) for x in word)
-
-
-def coordinates(weight):
-    return " ".join(str(w.numerator) if w.denominator == 1 else f"{w.numerator}/2" for w in weight)
-
-
-def column_reading(rows, order):
-    columns = [sum(row > j for row in rows) for j in range(rows[0])]
-    reading = tuple(x for height in columns for x in range(height, 0, -1))
-    return reading if order == STANDARD else reading[::-1]
-
-
-def replies(crystal, starts, sessions, cells):
-    lines, drawn, there = [], {}, set()
-    for word in starts:
-        if len(there) < cells:
-            there.add(word)
-    for number, script in enumerate(sessions, 1):
-        lines.append(f"session {number}")
-        for name, i, word in script:
-            if name == "add":
-                lines.append("old" if word in there else "new" if len(there) < cells else "full")
-                if len(there) < cells:
-                    there.add(word)
-            elif name == "find":
-                lines.append("there" if word in there else "absent")
-            elif name == "wt":
-                lines.append(coordinates(crystal.weight(word)))
-            elif name in ("eps", "phi"):
-                lines.append(str(crystal.strings(word, i)[name == "phi"]))
-            elif word not in there:
-                lines.append("absent")
-            elif name.startswith("look"):
-                target = drawn.get((word, name[-1], i), "open")
-                lines.append(target if target == "open" else "zero" if target is None else text(target))
-            else:
-                target = crystal.act(word, name == "f", i)
-                if target is not None and target not in there and len(there) == cells:
-                    lines.append("full")
-                    continue
-                if target is not None:
-                    there.add(target)
-                drawn[word, name, i] = target
-                lines.append("zero" if target is None else text(target))
-    return lines
-
-
-def graph_lines(crystal, vertices, rank):
-    indices = range(1, crystal.rank + 1)
-    lines, count = [], 0
-    for n, word in enumerate(vertices):
-        arrows = [(i, crystal.act(word, True, i)) for i in indices]
-        arrows = [f"{i}:{rank[target]}" for i, target in arrows if target is not None]
-        count += len(arrows)
-        lines.append(f"{n} | {text(word)} | {coordinates(crystal.weight(word))} | {' '.join(arrows) or '-'}")
-    return [f"graph {len(vertices)} {count}"] + lines
+from crystals import KASHIWARA, PROGRAM, STANDARD, Crystal, Mirrored, column_reading, command_text, coordinates, graph_lines, text
+from history_peer import Judge, told_in
 
 
 def statistic_lines(crystal, vertices):
@@ -286,12 +97,12 @@ def random_job(chance):
         lines.append("session")
         sessions.append([])
         for _ in range(chance.randint(0, 12)):
-            name = chance.choice(["add", "find", "wt", "eps", "phi", "f", "e", "f", "e", "look f", "look e"])
+            name = chance.choice(["add", "find", "wt", "eps", "phi", "f", "e", "f", "e", "look f", "look e"] + ["done"] * (version == 2))
             i, word = chance.randint(1, rank), chance.choice(near)
             if name == "add":
                 roots.add(word)
             sessions[-1].append((name, i, word))
-            lines.append(f"{name} {text(word)}" if name in ("add", "find", "wt") else f"{name} {i} {text(word)}")
+            lines.append(command_text(name, i, word))
             near.append(crystal.act(word, name != "e", i) or word)
     asks = []
     for _ in range(chance.randint(0, 3)):
@@ -307,8 +118,8 @@ def random_job(chance):
     return "\n".join(lines) + "\n", crystal, starts, sessions, roots, cells, asks
 
 
-def answer(crystal, starts, sessions, roots, cells, asks):
-    lines = [f"crystal {crystal.kind} {crystal.rank}"] + replies(crystal, starts, sessions, cells)
+def answer(crystal, starts, roots, cells, asks):
+    lines = [f"crystal {crystal.kind} {crystal.rank}"]
     vertices = crystal.component(roots)
     if len(vertices) > cells:
         return 3, lines + ["full", "end"]
@@ -329,14 +140,22 @@ REVERSALS = [
 ]
 
 
-def run(job, *statistics):
-    ran = subprocess.run([PROGRAM, "grow", "2", *statistics], input=job.encode(), capture_output=True)
+def run(job, growers, *statistics):
+    ran = subprocess.run([PROGRAM, "grow", str(growers), *statistics], input=job.encode(), capture_output=True)
     return ran.returncode, ran.stdout.decode().split("\n")
 
 
-def compare(name, job, wanted_status, wanted):
-    """Ends the program where its answer to the job is another."""
-    status, said = run(job, "character", "strings", "ends")
+def compare(name, job, growers, crystal, starts, sessions, cells, wanted_status, wanted):
+    """Ends the program where its answer to the job is another, or its replies are those of no legal history."""
+    name = f"{name}, grow {growers}"
+    status, said = run(job, growers, "character", "strings", "ends")
+    if status not in (1, 2):
+        told, rest = told_in(said, sessions)
+        why = Judge(crystal, starts, sessions, cells).verdict(told, status == 3)
+        if why:
+            print(f"{name}: {why}:\n{job}", *told, sep="\n")
+            sys.exit(1)
+        said = said[:1] + rest
     if status != wanted_status or said != wanted + [""]:
         place = next((n for n, (a, b) in enumerate(zip(said, wanted)) if a != b), min(len(said), len(wanted)))
         print(f"{name} differs at line {place + 1} (status {status}, wanted {wanted_status}):\n{job}")
@@ -349,7 +168,7 @@ def compare_reversal(kind, rank, factors, start):
     vertices = crystal.component([start])
     numbers = {word: n for n, word in enumerate(vertices)}
     lines = ["crystal-job 2", f"type {kind} {rank}", "order kashiwara", f"space {factors}", f"start {text(start)}"]
-    status, said = run("\n".join(lines) + "\n")
+    status, said = run("\n".join(lines) + "\n", 2)
     if status or said != [f"crystal {kind} {rank}", *graph_lines(crystal, vertices, numbers), "end", ""]:
         print(f"{lines[1]}, {lines[3]}: the component in Kashiwara's order is not that of the reversed words")
         sys.exit(1)
@@ -360,9 +179,9 @@ def main():
     chance = random.Random(int(sys.argv[2]) if len(sys.argv) > 2 else 1)
     full = vertices = 0
     for number in range(1, count + 1):
-        job, *rest = random_job(chance)
-        status, lines = answer(*rest)
-        compare(f"job {number}", job, status, lines)
+        job, crystal, starts, sessions, roots, cells, asks = random_job(chance)
+        status, lines = answer(crystal, starts, roots, cells, asks)
+        compare(f"job {number}", job, (number - 1) % 16 + 1, crystal, starts, sessions, cells, status, lines)
         full += status == 3
         vertices += len(lines)
     print(f"{count} jobs have the same answer ({full} of them full), {vertices} lines")

@@ -1,6 +1,0 @@
-use Rattle.std.proofs.Common.{◌≡◌, map, take}
-use Rattle.job_text.specs.declared.commands.Command.TheVariants.{Add}
-use Rattle.crystal_shell.proofs.serving.adds.Given as goal
-
-abbrev pub invariant-codes : goal.invariant-codes
-invariant-codes l = l.list.items ≡ map Add (take l.code-index l.code-items)
