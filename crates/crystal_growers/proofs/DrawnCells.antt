@@ -11,7 +11,7 @@ use Rattle.graph_history.specs.declared.event.Act.{Act}
 use Rattle.graph_history.specs.declared.event.Act.TheVariants.{Spent, Settled}
 use Rattle.graph_history.specs.declared.event.Event.{Event}
 use Rattle.graph_history.specs.declared.view.View.{View}
-use Rattle.graph_history.specs.History.{state_of, HasSome, IsWhole, IsLegal, calls}
+use Rattle.graph_history.specs.History.{state_of, HasSome, IsWhole, IsLegal}
 use Rattle.graph_history.proofs.CellLists.{keep_all}
 use Rattle.graph_history.specs.Desks.{by, without, Standing, Goes, Does, look_acts, added_cells}
 use Rattle.graph_history.proofs.DeskSteps.{goes_still, goes_then, goes_within}
@@ -20,11 +20,10 @@ use Rattle.graph_rule.specs.Values.{GraphValue, SeatValue}
 use Rattle.graph_rule.proofs.Composing.{went_grows}
 use Rattle.graph_rule.proofs.Views.{stays_prefix, some_prefix, whole_stays}
 use Rattle.crystal_growers.specs.declared.rows.Spent.{Spent as SpentAnswer}
-use Rattle.crystal_growers.specs.declared.work.Job.{Job}
 use Rattle.crystal_growers.specs.SharedDesks.{DeskValue, standing_of, Worked}
 use Rattle.crystal_growers.specs.Expanding.{IsGrowthAct, taken_back, Expanded}
 use Rattle.crystal_growers.specs.Growth.{Grew, AreWhole, HasEnded, rest_of, IsPaid, Expansions}
-use Rattle.crystal_growers.specs.Work.{CanDraw, HasDrawn, IsJob, IsBack}
+use Rattle.crystal_growers.specs.Work.{CanDraw, HasDrawn}
 use Rattle.crystal_growers.proofs.SharedSteps.{added_cells-append, look_quiet, worked_none, worked_then, worked_world, worked_belongs}
 use Rattle.crystal_growers.proofs.ExpandSteps.{step_run, looked_growth}
 use Rattle.crystal_growers.proofs.Parts.{none_in, first_in, later_in, head_or, rest_has, rest_on, rest_append, rest_same, without_is, distinct_split}
@@ -253,49 +252,10 @@ drawn_part g old mid now xs ys rest added more cells x is can p q =
     (subst (λ (l : List ℕ). Contains l c) (sym is) (Contains-append_right xs (ys ++ rest) c (Contains-append_left ys rest c h)))) in
     record { acts = d.acts; worked = d.worked; listed = d.listed; grew = d.grew; paid = tt; ended = d.ended }
 
--- a job that was done
-by_has : (n : ℕ) (acts : List Act) (a : Act) → Contains acts a → Contains (by n acts) (record { caller = n; act = a })
+-- the events of acts
+pub by_has : (n : ℕ) (acts : List Act) (a : Act) → Contains acts a → Contains (by n acts) (record { caller = n; act = a })
 by_has n [] a h = absurd (none_in a h)
 by_has n (x ∷ acts) a h = elim (head_or x acts a h) [
   | inl e ↦ subst (λ (y : Act). Contains (by n (x ∷ acts)) (record { caller = n; act = y })) e (first_in (record { caller = n; act = x }) (by n acts))
   | inr rest ↦ later_in (record { caller = n; act = x }) (by n acts) (record { caller = n; act = a }) (by_has n acts a rest)
 ]
-
-module _ (g : GraphValue) (base : List Event) (n : ℕ) (cells : List ℕ) (j : Job) (now : SeatValue) (added : List ℕ) where
-  pub back_of : (full : Option ℕ) → IsJob g base n cells j → HasDrawn j.cells.items j.seat now added full → IsBack g base n cells now added full
-  back_of full job d = record {
-    belongs = worked_belongs g j.seat now d.acts job.can.belongs d.worked;
-    number = number;
-    stake = ap (λ (x : View). x.stake) d.worked.went.is ∙ job.stake;
-    kept = ap (λ (x : View). x.kept) d.worked.went.is ∙ job.kept;
-    pledge = d.worked.pledge;
-    known = d.worked.went.known;
-    none = subst (λ (h : List Event). calls h n ≡ []) job.front (subst (λ (m : ℕ). calls j.seat.view.front m ≡ []) job.number (job.known.agrees.own.mine ∙ job.calls_are));
-    grew = subst (λ (w : WorldType). Grew w n base now.view.front) job.can.belongs.world
-        (subst (λ (h : List Event). Grew j.seat.view.world n h now.view.front) job.front (subst (λ (m : ℕ). Grew j.seat.view.world m j.seat.view.front now.view.front) job.number d.grew));
-    owes = λ c h. subst (λ (l : List ℕ). Contains l c) (sym d.worked.owed) (Contains-append_left j.seat.view.dues.owed (added_cells d.acts) c
-        (job.known.dues.among c (job.can.unpaid c (subst (λ (l : List ℕ). Contains l c) (sym job.cells_are) h))));
-    owed = λ c h. elim (Contains-append_cases j.seat.view.dues.owed (added_cells d.acts) c (subst (λ (l : List ℕ). Contains l c) d.worked.owed h)) [
-      | inl before ↦ inl (job.owed c before)
-      | inr later ↦ inr (subst (λ (l : List ℕ). Contains l c) (sym d.listed) later)
-    ];
-    unpaid = paid full d.paid;
-    new = λ c h there. never_added j.seat.view.world j.seat.view.number j.seat.view.front now.view.front d.acts c (went_grows j.seat.view now.view d.acts now.view.dues d.worked.went)
-        (subst (λ (l : List ℕ). Contains l c) d.listed h) (subst (λ (f : List Event). HasSome (state_of f) c) (sym job.front) there);
-    ended = ended full d.ended;
-  }
-    where
-      number : now.view.number ≡ n
-      number = worked_number j.seat now d.acts d.worked ∙ job.number
-
-      paid : (full : Option ℕ) → IsPaid (rest_of j.cells.items j.seat.view.dues.unpaid) added now.view.dues.unpaid full → IsPaid [] added now.view.dues.unpaid full
-      paid None is = is ∙ ap (λ (l : List ℕ). rest_of l j.seat.view.dues.unpaid ++ added) job.cells_are ∙ ap (λ (l : List ℕ). l ++ added) job.unpaid
-      paid (Some x) is = tt
-
-      events : now.view.calls ≡ by n d.acts
-      events = ap (λ (x : View). x.calls) d.worked.went.is ∙ ap₂ (λ (l : List Event) (m : ℕ). l ++ by m d.acts) job.calls_are job.number
-
-      ended : (full : Option ℕ) → HasEnded (AreWhole j.seat.view.world now.view.front j.cells.items) (λ x. Contains d.acts (Spent x)) full
-          → HasEnded (AreWhole g.world now.view.front cells) (λ x. Contains now.view.calls (record { caller = n; act = Spent x })) full
-      ended None whole = λ c h. subst (λ (w : WorldType). IsWhole w (state_of now.view.front) c) job.can.belongs.world (whole c (subst (λ (l : List ℕ). Contains l c) (sym job.cells_are) h))
-      ended (Some x) found = subst (λ (l : List Event). Contains l (record { caller = n; act = Spent x })) (sym events) (by_has n d.acts (Spent x) found)

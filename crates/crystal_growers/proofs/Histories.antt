@@ -112,22 +112,31 @@ none_after : (l m : List Event) → l ++ m ≡ [] → m ≡ []
 none_after [] m h = h
 none_after (x ∷ l) m h = cc
 
+none_first : (l m : List Event) → l ++ m ≡ [] → l ≡ []
+none_first [] m h = refl
+none_first (x ∷ l) m h = cc
+
+-- where a number has no calls it had none before
+pub none_before : (f h : List Event) (n : ℕ) → IsPrefix f h → calls h n ≡ [] → calls f n ≡ []
+none_before f h n p none = none_first (calls f n) (calls p.0 n) (sym (calls-append f p.0 n) ∙ ap (λ (l : List Event). calls l n) (sym p.1) ∙ none)
+
+pub grew_before : (w : WorldType) (n : ℕ) (old first h : List Event) → IsPrefix old first → calls first n ≡ [] → Grew w n first h → Grew w n old h
+grew_before w n old first h p none g =
+    let quiet : calls p.0 n ≡ [] = none_after (calls old n) (calls p.0 n) (sym (calls-append old p.0 n) ∙ ap (λ (l : List Event). calls l n) (sym p.1) ∙ none) in
+    grew_then w n old first h (grew_quiet w n old first p.0 p.1 quiet) g
+
 pub came_grew : (w : WorldType) (first now : List Event) (m : Kept) → CameBack w first now m → calls now m.number ≡ m.calls → Grew w m.number first now
 came_grew w first now m r all =
-    let quiet : calls r.begins.0 m.number ≡ [] = none_after (calls first m.number) (calls r.begins.0 m.number) (sym (calls-append first r.begins.0 m.number) ∙ ap (λ (l : List Event). calls l m.number) (sym r.begins.1) ∙ r.none) in
     let later : calls r.ends.0 m.number ≡ [] = calls_quiet r.back r.ends.0 now m.number m.calls r.ends.1 r.all all in
-    grew_then w m.number first r.base now (grew_quiet w m.number first r.base r.begins.0 r.begins.1 quiet)
-    (grew_then w m.number r.base r.back now r.grew (grew_quiet w m.number r.back now r.ends.0 r.ends.1 later))
+    grew_then w m.number first r.back now r.grew (grew_quiet w m.number r.back now r.ends.0 r.ends.1 later)
 
 pub same_calls : (w : WorldType) (n : ℕ) (old new more : List Event) → new ≡ old ++ more → calls old n ≡ calls new n → Grew w n old new
 same_calls w n old new more is same = grew_quiet w n old new more is (calls_quiet old more new n (calls new n) is same refl)
 
 pub came_on : (w : WorldType) (first now later : List Event) (m : Kept) → IsPrefix now later → CameBack w first now m → CameBack w first later m
 came_on w first now later m on r = record {
-  base = r.base;
-  back = r.back;
-  begins = r.begins;
   none = r.none;
+  back = r.back;
   grew = r.grew;
   all = r.all;
   ends = prefix_on r.back now later r.ends on;
@@ -135,13 +144,21 @@ came_on w first now later m on r = record {
 
 pub came_before : (w : WorldType) (old first now : List Event) (m : Kept) → IsPrefix old first → CameBack w first now m → CameBack w old now m
 came_before w old first now m before r = record {
-  base = r.base;
+  none = none_before old first m.number before r.none;
   back = r.back;
-  begins = prefix_on old first r.base before r.begins;
-  none = r.none;
-  grew = r.grew;
+  grew = grew_before w m.number old first r.back before r.none r.grew;
   all = r.all;
   ends = r.ends;
+}
+
+-- a number under which nobody called
+pub came_quiet : (w : WorldType) (first h now : List Event) (m : Kept) → IsPrefix first h → IsPrefix h now → calls h m.number ≡ m.calls → m.calls ≡ [] → CameBack w first now m
+came_quiet w first h now m p q all quiet = record {
+  none = none_before first h m.number p (all ∙ quiet);
+  back = first;
+  grew = grew_none w m.number first;
+  all = none_before first h m.number p (all ∙ quiet) ∙ sym quiet;
+  ends = prefix_on first h now p q;
 }
 
 -- what part of a list has, the list has

@@ -1,15 +1,13 @@
 -- Lists of cells without some of them, and the parts of a list.
-use Rattle.std.proofs.Common.{◌≡◌, refl, sym, ap, ap₂, subst, ◌∙◌, ℕ, zero, suc, ◌+◌, ◌*◌, ◌<◌, ◌≤◌, ◌⊎◌, inl, inr, ◌||◌, Bool, true, false, not, nat_eq, cond, List, [], ◌∷◌, ◌++◌, length, filter, take, drop, Contains, true≢false, arith}
+use Rattle.std.proofs.Common.{◌≡◌, refl, sym, ap, ap₂, subst, ◌∙◌, ℕ, ◌⊎◌, inl, inr, ◌||◌, Bool, true, false, not, nat_eq, cond, List, [], ◌∷◌, ◌++◌, filter, Contains, true≢false, arith}
 use Rattle.std.specs.List.{IsDistinct, AllByRecursion}
 use Rattle.std.specs.Set.{is_member}
 use Rattle.std.proofs.lemmas.Grind.{common_steps}
-use Rattle.std.proofs.lemmas.List.{take-append-drop, take-take, drop-take, drop-drop, length-drop}
-use Rattle.std.proofs.lemmas.List.Elements.{filter-append, filter_agree, All-from_recursion, All-contains, Contains-append_left, Contains-append_right, Contains-append_cases, Contains-push_cases}
+use Rattle.std.proofs.lemmas.List.Elements.{filter-append, filter_agree, All-from_recursion, All-contains, Contains-append_right, Contains-append_cases, Contains-push_cases}
 use Rattle.std.proofs.lemmas.List.Folds.{list_any-append}
 use Rattle.graph_history.specs.Desks.{without}
 use Rattle.graph_history.proofs.CellLists.{into, out_of, not_in, part_of, part_has}
 use Rattle.crystal_growers.specs.Growth.{rest_of}
-use Rattle.crystal_growers.specs.Gather.{part_at}
 
 -- elements
 pub none_in : {X : Type 0} (c : X) → Contains [] c → ⊥
@@ -64,6 +62,13 @@ rest_none cells (x ∷ xs) = by (is_member nat_eq cells x) refl (rest_none cells
     by true is rest = rw is rest
     by false is rest = rest
 
+pub rest_all : (cells list : List ℕ) → ((c : ℕ) → Contains list c → Contains cells c) → rest_of cells list ≡ []
+rest_all cells [] all = refl
+rest_all cells (x ∷ xs) all =
+    let here : is_member nat_eq cells x ≡ true = into cells x (all x (first_in x xs)) in
+    let later : rest_of cells xs ≡ [] = rest_all cells xs (λ c h. all c (later_in x xs c h)) in
+    rw here later
+
 pub rest_append : (cells xs ys : List ℕ) → rest_of cells (xs ++ ys) ≡ rest_of cells xs ++ rest_of cells ys
 rest_append cells xs ys = filter-append (λ c. not (is_member nat_eq cells c)) xs ys
 
@@ -109,35 +114,3 @@ distinct_split (x ∷ xs) ys d =
       rest.1,
       λ c h g. elim (head_or x xs c h) [ inl e ↦ same_test c (subst (λ (y : ℕ). nat_eq y c ≡ false) e (apart c g)) | inr r ↦ rest.2 c r g ],
     )
-
--- the parts of a list, one after another
-take_both : (a n : ℕ) (xs : List ℕ) → take a xs ++ take n (drop a xs) ≡ take (a + n) xs
-take_both a n xs = ap₂ (λ (k l : List ℕ). k ++ l) (sym (take-take a (a + n) xs (omega arith))) (sym (drop-take a n xs)) ∙ take-append-drop a (take (a + n) xs)
-
-pub next_part : (list : List ℕ) (size k : ℕ) → take (k * size) list ++ part_at list size k ≡ take (suc k * size) list
-next_part list size k =
-    let e : k * size + size ≡ suc k * size = omega arith in
-    take_both (k * size) size list ∙ ap (λ (n : ℕ). take n list) e
-
-pub part_in : (list : List ℕ) (size k c : ℕ) → Contains (part_at list size k) c → Contains list c
-part_in list size k c h =
-    let inner = Contains-append_left (take size (drop (k * size) list)) (drop size (drop (k * size) list)) c h in
-    let dropped : Contains (drop (k * size) list) c = subst (λ (l : List ℕ). Contains l c) (take-append-drop size (drop (k * size) list)) inner in
-    subst (λ (l : List ℕ). Contains l c) (take-append-drop (k * size) list) (Contains-append_right (take (k * size) list) (drop (k * size) list) c dropped)
-
--- a list in so many parts has each of its cells in one of them
-pub in_part : (total size : ℕ) (list : List ℕ) (c : ℕ) → length list ≤ total * size → Contains list c → (k : ℕ) × (k < total) × Contains (part_at list size k) c
-in_part zero size list c fits (k, below, is) = let none : 0 * size ≡ 0 = omega arith in absurd (omega arith)
-in_part (suc total) size list c fits h =
-    let whole : Contains (take size list ++ drop size list) c = subst (λ (l : List ℕ). Contains l c) (sym (take-append-drop size list)) h in
-    let less : length (drop size list) ≤ total * size = let d = length-drop size list in let e : suc total * size ≡ size + total * size = omega arith in omega arith in
-    elim (Contains-append_cases (take size list) (drop size list) c whole) [
-      | inl front ↦ let e : 0 ≡ 0 * size = omega arith in (zero, omega arith, subst (λ (n : ℕ). Contains (take size (drop n list)) c) e front)
-      | inr rest ↦
-          let r = in_part total size (drop size list) c less rest in
-          let e : size + r.0 * size ≡ suc r.0 * size = omega arith in (
-            suc r.0,
-            omega (arith, r.1),
-            subst (λ (l : List ℕ). Contains (take size l) c) (drop-drop (r.0 * size) size list ∙ ap (λ (n : ℕ). drop n list) e) r.2,
-          )
-    ]

@@ -2,5 +2,8 @@ pub mod SharedDesks
 pub mod Expanding
 pub mod Growth
 pub mod Work
+pub mod Slips
+pub mod Shifts
+pub mod Workers
 pub mod Gather
-pub mod Rounds
+pub mod Grow

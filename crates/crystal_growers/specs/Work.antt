@@ -1,18 +1,13 @@
--- What a grower does with its cells at its seat.
-use Rattle.std.specs.Prelude.{ℕ, ◌≡◌, ◌⊎◌, ⊤, nat_eq, List, [], Option, All, Contains, Result, Ok, Err}
+-- What is drawn at a seat.
+use Rattle.std.specs.Prelude.{ℕ, ◌≡◌, ◌⊎◌, nat_eq, List, Option, All, Contains}
 use Rattle.std.specs.List.{IsDistinct}
 use Rattle.graph_history.specs.declared.event.Act.{Act}
 use Rattle.graph_history.specs.declared.event.Act.TheVariants.{Spent}
-use Rattle.graph_history.specs.declared.event.Event.{Event}
-use Rattle.graph_history.specs.History.{state_of, HasSome, calls}
-use Rattle.graph_rule.specs.Rule.{IsKnown}
-use Rattle.graph_rule.specs.Values.{GraphValue, SeatValue, Belongs}
-use Rattle.crystal_streams.specs.declared.faults.NoMemory.{NoMemory}
-use Rattle.crystal_growers.specs.declared.work.Drawn.{Drawn}
-use Rattle.crystal_growers.specs.declared.work.Job.{Job}
-use Rattle.crystal_growers.specs.declared.work.Share.{Share}
-use Rattle.crystal_growers.specs.SharedDesks.{Worked}
+use Rattle.graph_history.specs.History.{state_of, HasSome, IsWhole}
 use Rattle.graph_history.specs.Desks.{added_cells}
+use Rattle.graph_rule.specs.Values.{GraphValue, SeatValue, Belongs}
+use Rattle.crystal_growers.specs.declared.drawing.Drawn.{Drawn}
+use Rattle.crystal_growers.specs.SharedDesks.{Worked}
 use Rattle.crystal_growers.specs.Growth.{Grew, AreWhole, HasEnded, rest_of, IsPaid}
 
 -- the cells can be drawn at the seat: each is a vertex, stands in the list once, and is unpaid here
@@ -35,41 +30,16 @@ pub record HasDrawn (cells : List ℕ) (old now : SeatValue) (added : List ℕ) 
 abbrev pub IsDrawn : List ℕ → SeatValue → Drawn → Type 0
 IsDrawn cells seat d = HasDrawn cells seat d.seat d.added.items d.full
 
--- a grower's job: a new seat to which its cells were handed, and nothing else, under this number and from this front
-pub record IsJob (g : GraphValue) (base : List Event) (n : ℕ) (cells : List ℕ) (j : Job) : Type 0 where
-  pub can : CanDraw g j.cells.items j.seat
-  pub cells_are : j.cells.items ≡ cells
-  pub front : j.seat.view.front ≡ base
-  pub number : j.seat.view.number ≡ n
-  pub stake : j.seat.view.stake ≡ 1
-  pub calls_are : j.seat.view.calls ≡ []
-  pub kept : j.seat.view.kept ≡ []
-  pub known : IsKnown j.seat.view
-  pub owed : (c : ℕ) → Contains j.seat.view.dues.owed c → Contains cells c
-  pub unpaid : rest_of cells j.seat.view.dues.unpaid ≡ []
+-- the cells wait at the seat: they can be drawn, and are all that is unpaid here; all else that it owes is whole
+pub record IsWaiting (g : GraphValue) (cells : List ℕ) (s : SeatValue) : Type 0 where
+  pub can : CanDraw g cells s
+  pub no_other : (c : ℕ) → Contains s.view.dues.unpaid c → Contains cells c
+  pub covered : (c : ℕ) → Contains s.view.dues.owed c → IsWhole g.world (state_of s.view.front) c ⊎ Contains cells c
 
--- what its seat is in the end: it owes its cells still, and besides them only cells that it added. Where all was drawn, the
--- added ones are what is unpaid
-pub record IsBack (g : GraphValue) (base : List Event) (n : ℕ) (cells : List ℕ) (s : SeatValue) (added : List ℕ) (full : Option ℕ) : Type 0 where
-  pub belongs : Belongs s g
-  pub number : s.view.number ≡ n
-  pub stake : s.view.stake ≡ 1
-  pub kept : s.view.kept ≡ []
-  pub pledge : s.view.dues.pledge ≡ 0
-  pub known : IsKnown s.view
-  pub none : calls base n ≡ []
-  pub grew : Grew g.world n base s.view.front
-  pub owes : (c : ℕ) → Contains cells c → Contains s.view.dues.owed c
-  pub owed : (c : ℕ) → Contains s.view.dues.owed c → Contains cells c ⊎ Contains added c
-  pub unpaid : IsPaid [] added s.view.dues.unpaid full
-  pub new : (c : ℕ) → Contains added c → HasSome (state_of base) c → ⊥
-  pub ended : HasEnded (AreWhole g.world s.view.front cells) (λ x. Contains s.view.calls (record { caller = n; act = Spent x })) full
+-- the word with this code found no cell under the number of a seat that had not called before
+abbrev pub HasSpent : SeatValue → ℕ → Type 0
+HasSpent s x = Contains s.view.front (record { caller = s.view.number; act = Spent x })
 
-abbrev pub IsShare : GraphValue → List Event → ℕ → List ℕ → Result Share NoMemory → Type 0
-IsShare g base n cells (Ok s) = IsBack g base n cells s.seat s.added.items s.full
-IsShare g base n cells (Err e) = ⊤
-
--- what a job ends with
-abbrev pub IsDone : Job → Result Share NoMemory → Type 0
-IsDone j (Ok s) = HasDrawn j.cells.items j.seat s.seat s.added.items s.full
-IsDone j (Err e) = ⊤
+-- how it ended: these cells wait; or some word found no cell
+abbrev pub IsEnded : GraphValue → List ℕ → SeatValue → Option ℕ → Type 0
+IsEnded g cells s = HasEnded (IsWaiting g cells s) (HasSpent s)

@@ -11,6 +11,7 @@ use intern_cells::add;
 use std::alloc::Global;
 use std::sync::atomic::{AtomicU64, Ordering};
 use std::thread::Threads;
+use tableau_reading::Shape;
 use tensor_words::{Codes, Factor, Space, World};
 
 /// What came of a growth: how many debts and vertices there are in the end, or the code that found no cell.
@@ -20,21 +21,17 @@ enum Outcome {
     Full,
 }
 
-/// The words of some letters, with one root.
-fn world(
-    alloc: Global,
-    kind: Kind,
-    letters: &[Factor],
-    cells: u32,
-    root: u64,
-) -> Result<Option<World>, NoMemory> {
-    let roots = Codes::of(Vec::from_array(alloc, [root])?);
+/// The words of some letters.
+fn words(kind: Kind, letters: &[Factor]) -> Option<Space> {
     let Ok(cartan) = Cartan::new(kind, 2) else {
-        return Ok(None);
+        return None;
     };
-    let Ok(space) = Space::new(cartan, letters) else {
-        return Ok(None);
-    };
+    Space::new(cartan, letters).ok()
+}
+
+/// A world with one root, `None` where there is none with this code.
+fn world(alloc: Global, space: Space, cells: u32, root: u64) -> Result<Option<World>, NoMemory> {
+    let roots = Codes::of(Vec::from_array(alloc, [root])?);
     if roots.len() > 1 {
         return Ok(None);
     }
@@ -73,7 +70,25 @@ fn grow_from<R: Threads + Sync, G: Gate>(
     }
 }
 
-/// The same in a new graph of the words of three letters in A_2, from the root `2 1 1`.
+/// The same in a new graph.
+fn grow_new<R: Threads + Sync, G: Gate>(
+    rt: &R,
+    alloc: Global,
+    world: World,
+    root: u64,
+    growers: u32,
+    gate: &G,
+) -> Result<Option<Outcome>, NoMemory>
+    requires { (1 ≤ growers) × (growers ≤ 16) }
+{
+    if !world.has_root(root) {
+        return Ok(None);
+    }
+    let (graph, seat) = Graph::new(alloc, world)?;
+    grow_from(rt, alloc, &graph, seat, root, growers, gate)
+}
+
+/// Growth in the words of three letters in A_2, from the root `2 1 1`.
 fn grow_words<R: Threads + Sync, G: Gate>(
     rt: &R,
     alloc: Global,
@@ -84,14 +99,28 @@ fn grow_words<R: Threads + Sync, G: Gate>(
     requires { (1 ≤ growers) × (growers ≤ 16) }
 {
     let letters = [Factor::Vector, Factor::Vector, Factor::Vector];
-    let Some(world) = world(alloc, Kind::A, &letters, cells, 9)? else {
+    let Some(space) = words(Kind::A, &letters) else {
         return Ok(None);
     };
-    if !world.has_root(9) {
-        return Ok(None);
+    match world(alloc, space, cells, 9)? {
+        None => Ok(None),
+        Some(world) => grow_new(rt, alloc, world, 9, growers, gate),
     }
-    let (graph, seat) = Graph::new(alloc, world)?;
-    grow_from(rt, alloc, &graph, seat, 9, growers, gate)
+}
+
+/// Growth in the letters of C_2, from the lowest one.
+fn grow_letters<R: Threads + Sync>(
+    rt: &R,
+    alloc: Global,
+    cells: u32,
+) -> Result<Option<Outcome>, NoMemory> {
+    let Some(space) = words(Kind::C, &[Factor::Vector]) else {
+        return Ok(None);
+    };
+    match world(alloc, space, cells, 3)? {
+        None => Ok(None),
+        Some(world) => grow_new(rt, alloc, world, 3, 2, &OpenGate),
+    }
 }
 
 #[test]
@@ -111,21 +140,14 @@ fn eight_words(rt: HostRuntime) -> Result<(), NoMemory> {
     Ok(())
 }
 
-/// The letters of C_2, from the lowest one.
 #[test]
 fn from_the_lowest_letter(rt: HostRuntime) -> Result<(), NoMemory> {
-    for (cells, vertices) in [(4, Some(4)), (3, None)] {
-        let world = world(rt.alloc(), Kind::C, &[Factor::Vector], cells, 3)?;
-        let world = world.expect(&rt, "a world of letters");
-        assert!(rt; world.has_root(3));
-        let (graph, seat) = Graph::new(rt.alloc(), world)?;
-        let ended = grow_from(&rt, rt.alloc(), &graph, seat, 3, 2, &OpenGate)?;
-        let wanted = match vertices {
-            Some(vertices) => Outcome::Closed { debts: 0, vertices },
-            None => Outcome::Full,
-        };
-        assert_eq!(rt; ended, Some(wanted));
-    }
+    let all = Some(Outcome::Closed {
+        debts: 0,
+        vertices: 4,
+    });
+    assert_eq!(rt; grow_letters(&rt, rt.alloc(), 4)?, all);
+    assert_eq!(rt; grow_letters(&rt, rt.alloc(), 3)?, Some(Outcome::Full));
     Ok(())
 }
 
@@ -190,7 +212,7 @@ impl Gate for Counting {
     }
 }
 
-/// From `2 1 1` there are 2, 2, 2 and 1 words in 1, 2, 3 and 4 arrows, so its growth has five rounds of one parcel each.
+/// From `2 1 1` there are 1, 2, 2, 2 and 1 words in 0 to 4 arrows, and each of these lists is one parcel.
 #[test]
 fn turns_count_on(rt: HostRuntime) -> Result<(), NoMemory> {
     let gate = Counting {
@@ -205,5 +227,87 @@ fn turns_count_on(rt: HostRuntime) -> Result<(), NoMemory> {
     assert_eq!(rt; ended, Some(all));
     assert_eq!(rt; gate.turns.load(Ordering::SeqCst), 6);
     assert_eq!(rt; gate.wrong.load(Ordering::SeqCst), 0);
+    Ok(())
+}
+
+/// Growth from the top of the tableaux with rows of 4, 3, 2 and 1 boxes in C_4.
+fn grow_tableaux<R: Threads + Sync, G: Gate>(
+    rt: &R,
+    alloc: Global,
+    cells: u32,
+    growers: u32,
+    gate: &G,
+) -> Result<Option<Outcome>, NoMemory>
+    requires { (1 ≤ growers) × (growers ≤ 16) }
+{
+    let Ok(cartan) = Cartan::new(Kind::C, 4) else {
+        return Ok(None);
+    };
+    let Ok(shape) = Shape::new(&[4, 3, 2, 1], cartan) else {
+        return Ok(None);
+    };
+    let space = shape.space();
+    let root = space.code_of(&shape.top());
+    match world(alloc, space, cells, root)? {
+        None => Ok(None),
+        Some(world) => grow_new(rt, alloc, world, root, growers, gate),
+    }
+}
+
+/// A gate at which worker 1 waits at its start until worker 0 is at a late parcel, and worker 0 waits there until worker 1
+/// has a parcel, each for so many turns at most. Worker 1 has loaded none then, so it stole that parcel.
+#[derive(Drop)]
+struct Stealing {
+    first: AtomicU64,
+    second: AtomicU64,
+    missed: AtomicU64,
+}
+
+const LATE: u64 = 40;
+
+/// Whether a count comes to a number within so many turns.
+fn reaches(count: &AtomicU64, least: u64) -> bool {
+    for _ in 0..MOST_TURNS {
+        if count.load(Ordering::SeqCst) >= least {
+            return true;
+        }
+    }
+    false
+}
+
+impl Gate for Stealing {
+    fn pass(&self, worker: u32, turn: u64) {
+        let (own, other) = if worker == 0 {
+            (&self.first, &self.second)
+        } else {
+            (&self.second, &self.first)
+        };
+        own.store(turn, Ordering::SeqCst);
+        let met = match (worker, turn) {
+            (0, LATE) => reaches(other, 1),
+            (1, 0) => reaches(other, LATE),
+            _ => true,
+        };
+        if !met {
+            self.missed.fetch_add(1, Ordering::SeqCst);
+        }
+    }
+}
+
+#[test]
+fn a_parcel_is_stolen(rt: HostRuntime) -> Result<(), NoMemory> {
+    let gate = Stealing {
+        first: AtomicU64::new(0),
+        second: AtomicU64::new(0),
+        missed: AtomicU64::new(0),
+    };
+    let ended = grow_tableaux(&rt, rt.alloc(), 200_000, 2, &gate)?;
+    let all = Outcome::Closed {
+        debts: 0,
+        vertices: 65_536,
+    };
+    assert_eq!(rt; ended, Some(all));
+    assert!(rt; gate.second.load(Ordering::SeqCst) > 0);
+    assert_eq!(rt; gate.missed.load(Ordering::SeqCst), 0);
     Ok(())
 }

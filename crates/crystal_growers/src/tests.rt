@@ -11,6 +11,7 @@ use crystal_streams::{NoMemory, OpenGate};
 use graph_history::{Added, Desk, Draw, Look, Origin, PlainDesk};
 use graph_rule::{Graph, Seat, settle};
 use std::alloc::Global;
+use std::process::Abort;
 use std::thread::Threads;
 use tensor_words::{Codes, Factor, Space, World};
 
@@ -24,15 +25,20 @@ const E_1: Arrow = Arrow {
     index: 1,
 };
 
-/// The words of two letters in A_1, with the roots `1 1` and `2 1`.
-fn world(alloc: Global, cells: u32) -> Result<Option<World>, NoMemory> {
-    let roots = Codes::of(Vec::from_array(alloc, [0, 2])?);
+/// The words of two letters in A_1.
+fn words() -> Option<Space> {
     let Ok(cartan) = Cartan::new(Kind::A, 1) else {
+        return None;
+    };
+    Space::new(cartan, &[Factor::Vector, Factor::Vector]).ok()
+}
+
+/// With the roots `1 1` and `2 1`.
+fn world(alloc: Global, cells: u32) -> Result<Option<World>, NoMemory> {
+    let Some(space) = words() else {
         return Ok(None);
     };
-    let Ok(space) = Space::new(cartan, &[Factor::Vector, Factor::Vector]) else {
-        return Ok(None);
-    };
+    let roots = Codes::of(Vec::from_array(alloc, [0, 2])?);
     if roots.len() > 2 {
         return Ok(None);
     }
@@ -107,8 +113,8 @@ fn expand_plain(
     }
     let mut desk = PlainDesk::new(alloc, world, 0)?;
     match desk.add(code) {
-        Added::New { cell } | Added::Old { cell } => Ok(Some(expand(&mut desk, cell))),
-        Added::Full => Ok(None),
+        Added::New { cell } => Ok(Some(expand(&mut desk, cell))),
+        _ => Ok(None),
     }
 }
 
@@ -154,6 +160,37 @@ fn grow_full<R: Threads + Sync>(
     Ok(Some(finished(alloc, graph, &mut seat, &closed)?))
 }
 
+/// A root that is put in first.
+fn put_in(rt: &impl Abort, desk: &mut SharedDesk) -> u32 {
+    assert_eq!(rt; find(desk, 2), Some(None));
+    let Some(Added::New { cell: two }) = add(desk, 2) else {
+        panic!(rt; "the root is new");
+    };
+    assert_eq!(rt; find(desk, 2), Some(Some(two)));
+    assert_eq!(rt; desk.tally(), 1);
+    two
+}
+
+/// An arrow that is drawn first.
+fn draw_first(rt: &impl Abort, desk: &mut SharedDesk) -> u32 {
+    assert_eq!(rt; look(desk, 0, F_1), Some(Look::Blank));
+    let Some(Draw::To { cell: next }) = draw(desk, 0, F_1) else {
+        panic!(rt; "the arrow leads to a word");
+    };
+    assert_eq!(rt; look(desk, 0, F_1), Some(Look::To { cell: next }));
+    assert_eq!(rt; find(desk, 1), Some(Some(next)));
+    next
+}
+
+/// Arrows that lead to no word.
+fn draw_others(rt: &impl Abort, desk: &mut SharedDesk) {
+    assert_eq!(rt; draw(desk, 0, E_1), Some(Draw::Zero));
+    assert_eq!(rt; look(desk, 0, E_1), Some(Look::Zero));
+    assert_eq!(rt; expand_root(desk, 2), Some(Ok(())));
+    assert_eq!(rt; look(desk, 2, F_1), Some(Look::Zero));
+    assert_eq!(rt; desk.tally(), 3);
+}
+
 #[test]
 fn four_cells(rt: HostRuntime) -> Result<(), NoMemory> {
     let world = world(rt.alloc(), 4)?.expect(&rt, "a world of four cells");
@@ -162,23 +199,9 @@ fn four_cells(rt: HostRuntime) -> Result<(), NoMemory> {
         return Err(NoMemory);
     };
     let mut desk = made;
-    assert_eq!(rt; find(&mut desk, 2), Some(None));
-    let Some(Added::New { cell: two }) = add(&mut desk, 2) else {
-        panic!(rt; "the root is new");
-    };
-    assert_eq!(rt; find(&mut desk, 2), Some(Some(two)));
-    assert_eq!(rt; desk.tally(), 1);
-    assert_eq!(rt; look(&mut desk, 0, F_1), Some(Look::Blank));
-    let Some(Draw::To { cell: next }) = draw(&mut desk, 0, F_1) else {
-        panic!(rt; "the arrow leads to a word");
-    };
-    assert_eq!(rt; look(&mut desk, 0, F_1), Some(Look::To { cell: next }));
-    assert_eq!(rt; find(&mut desk, 1), Some(Some(next)));
-    assert_eq!(rt; draw(&mut desk, 0, E_1), Some(Draw::Zero));
-    assert_eq!(rt; look(&mut desk, 0, E_1), Some(Look::Zero));
-    assert_eq!(rt; expand_root(&mut desk, 2), Some(Ok(())));
-    assert_eq!(rt; look(&mut desk, 2, F_1), Some(Look::Zero));
-    assert_eq!(rt; desk.tally(), 3);
+    let two = put_in(&rt, &mut desk);
+    let next = draw_first(&rt, &mut desk);
+    draw_others(&rt, &mut desk);
     let (seat, added) = desk.into_parts();
     assert_eq!(rt; seat.stake(), 65_536);
     assert_eq!(rt; added.len(), 3);
@@ -189,17 +212,23 @@ fn four_cells(rt: HostRuntime) -> Result<(), NoMemory> {
 /// There is no cell for the word to which the first arrow leads.
 #[test]
 fn one_cell(rt: HostRuntime) -> Result<(), NoMemory> {
-    let spent = Some(Err(Spent { code: 1 }));
     let small = world(rt.alloc(), 1)?.expect(&rt, "a world of one cell");
     let (graph, seat) = Graph::new(rt.alloc(), small)?;
     let Ok(made) = SharedDesk::new(rt.alloc(), &graph, seat, 64) else {
         return Err(NoMemory);
     };
     let mut desk = made;
-    assert_eq!(rt; expand_root(&mut desk, 0), spent);
+    assert_eq!(rt; expand_root(&mut desk, 0), Some(Err(Spent { code: 1 })));
     assert_eq!(rt; add(&mut desk, 2), Some(Added::Full));
-    let again = world(rt.alloc(), 1)?.expect(&rt, "a world of one cell");
-    assert_eq!(rt; expand_plain(rt.alloc(), again, 0)?, spent);
+    Ok(())
+}
+
+/// The same over lists in memory, and where there are cells.
+#[test]
+fn one_cell_in_memory(rt: HostRuntime) -> Result<(), NoMemory> {
+    let small = world(rt.alloc(), 1)?.expect(&rt, "a world of one cell");
+    let full = expand_plain(rt.alloc(), small, 0)?;
+    assert_eq!(rt; full, Some(Err(Spent { code: 1 })));
     let large = world(rt.alloc(), 4)?.expect(&rt, "a world of four cells");
     assert_eq!(rt; expand_plain(rt.alloc(), large, 0)?, Some(Ok(())));
     Ok(())

@@ -1,34 +1,34 @@
 //! Growers side by side.
-ghost use Rattle.std.specs.Prelude.{◌≡◌, ℕ, ◌<◌, length, slice_index_or, All, IfOk, Result};
-ghost use Rattle.crystal_growers.specs.declared.work.Job.{Job as JobType};
-ghost use Rattle.crystal_growers.specs.declared.work.Share.{Share as ShareType};
-ghost use Rattle.crystal_streams.specs.declared.faults.NoMemory.{NoMemory as NoMemoryType};
-ghost use Rattle.crystal_growers.specs.Work.{CanDraw, IsDone};
+ghost use Rattle.std.specs.Prelude.{◌≡◌, [], All, IfOk};
+ghost use Rattle.crystal_growers.specs.Work.{IsWaiting};
+ghost use Rattle.crystal_growers.specs.Workers.{IsShift};
+ghost use Rattle.crystal_growers.specs.Gather.{AreShifts};
 
-use crate::work::{Job, Share, work};
-use crystal_streams::{Gate, NoMemory};
+use crate::work::{Shift, Start, work};
+use crystal_streams::Gate;
 use graph_rule::Graph;
+use parcel_deques::Naming;
 use std::alloc::AllocError;
 use std::thread;
 use std::thread::Threads;
 
-/// Does each job on a thread of its own.
-pub(crate) fn work_all<R: Threads + Sync, G: Gate>(
+/// Lets each grower work on a thread of its own.
+pub(crate) fn work_all<J: Naming + Send + Sync, R: Threads + Sync, G: Gate>(
     rt: &R,
     graph: &Graph,
     gate: &G,
-    jobs: Vec<Job>,
-) -> Result<Vec<Result<Share, NoMemory>>, AllocError>
-    requires { All (λ j. CanDraw graph.now j.cells.items j.seat) jobs.items }
-    ensures count { IfOk result (λ done. length done.items ≡ length jobs.items) }
-    ensures each { IfOk result (λ done. (k : ℕ) (j : JobType) (r : Result ShareType NoMemoryType) → k < length jobs.items → IsDone (slice_index_or jobs.items k j) (slice_index_or done.items k r)) }
+    starts: Vec<Start<J>>,
+) -> Result<Vec<Shift<J>>, AllocError>
+    requires named { J.graph ≡ graph.now }
+    requires free { All (λ s. IsWaiting graph.now [] s.seat × (s.bench.away ≡ [])) starts.items }
+    ensures { IfOk result (λ shifts. AreShifts graph.now starts.items shifts.items) }
 {
     thread::map_vec(
         rt,
-        jobs,
-        &|job: Job| -> Result<Share, NoMemory>
-            requires { CanDraw graph.now job.cells.items job.seat }
-            ensures { IsDone job result }
-        { work(graph, gate, job) },
+        starts,
+        &|start: Start<J>| -> Shift<J>
+            requires { (J.graph ≡ graph.now) × IsWaiting graph.now [] start.seat × (start.bench.away ≡ []) }
+            ensures { IsShift graph.entry.now start.seat result.seat start.bench result.bench result.ending }
+        { work(graph, gate, start) },
     )
 }

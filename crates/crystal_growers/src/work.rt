@@ -1,122 +1,267 @@
-//! What a grower does with its cells.
-ghost use Rattle.std.specs.Prelude.{◌≡◌, ◌≤◌, length, IfOk};
-ghost use Rattle.crystal_growers.specs.Work.{CanDraw, IsDrawn, IsDone};
+//! What a grower does.
+ghost use Rattle.std.specs.Prelude.{◌≡◌, [], ◌∷◌, ◌++◌, IfSome, IfNone};
+ghost use Rattle.graph_rule.specs.Values.{Belongs};
+ghost use Rattle.parcel_deques.specs.Lists.{SameItems};
+ghost use Rattle.parcel_deques.specs.Benches.{FoundOwnEmpty};
+ghost use Rattle.crystal_growers.specs.Work.{IsWaiting, IsEnded};
+ghost use Rattle.crystal_growers.specs.Workers.{IsRun, IsShared, IsDrawnBack, IsShift, IsEndingOf};
 
-use crate::growth::expand_all;
+use crate::drawing::{Drawn, draw_few, draw_out};
 use crate::hints::Hints;
-use crate::shared::SharedDesk;
-use crystal_streams::{Gate, NoMemory};
+use crate::offering::{offer, take_in};
+use crate::shared::NoRoom;
+use crate::sweeping::{Swept, sweep};
+use crystal_streams::Gate;
 use graph_rule::{Graph, Seat};
+use parcel_deques::{Bench, Naming, Parcel};
 use std::alloc::Global;
 
-/// The cells that are drawn between two turns of the gate.
-const PARCEL: usize = 64;
+/// How often a grower whose deque is empty tries to steal before it ends.
+const TRIES: u32 = 4_096;
 
-/// What came of some cells: the seat that drew them, the cells that it added, and, where some word found no cell, its
-/// code; and the hints, which it used and kept.
+/// The parcels that a grower runs while it steals and offers.
+const MOST_PARCELS: u64 = 2_097_152;
+
+/// Why a grower ended.
+#[derive(Clone, Copy, Debug, PartialEq, Eq)]
+pub(crate) enum Ending {
+    /// It found no parcel any more.
+    Done,
+    /// The word with this code found no cell.
+    Spent { code: u64 },
+    /// There was no memory.
+    NoMemory,
+}
+
+/// What a grower begins with.
 #[derive(Drop)]
-pub(crate) struct Drawn {
+pub(crate) struct Start<J: Naming> {
+    pub(crate) alloc: Global,
+    pub(crate) worker: u32,
     pub(crate) seat: Seat,
-    pub(crate) added: Vec<u32>,
-    pub(crate) full: Option<u64>,
+    pub(crate) bench: Bench<J>,
+}
+
+/// What a grower ends with.
+#[derive(Drop)]
+pub(crate) struct Shift<J: Naming> {
+    pub(crate) seat: Seat,
+    pub(crate) bench: Bench<J>,
+    pub(crate) ending: Ending,
+}
+
+/// A grower that goes on: its seat, at which nothing waits, and its hints.
+#[derive(Drop)]
+pub(crate) struct Ready {
+    pub(crate) seat: Seat,
     pub(crate) hints: Hints,
 }
 
-/// What a grower is given: a seat of its own, its cells, its number, and its next turn at the gate.
+/// A grower that stops.
 #[derive(Drop)]
-pub(crate) struct Job {
-    pub(crate) alloc: Global,
+pub(crate) struct Stopped {
     pub(crate) seat: Seat,
-    pub(crate) cells: Vec<u32>,
-    pub(crate) worker: u32,
-    pub(crate) turn: u64,
+    pub(crate) ending: Ending,
 }
 
-/// What a grower gives back.
-#[derive(Drop)]
-pub(crate) struct Share {
-    pub(crate) seat: Seat,
-    pub(crate) added: Vec<u32>,
-    pub(crate) full: Option<u64>,
-    pub(crate) turn: u64,
+/// The next parcel: the first of the own deque, else one that another grower loaded.
+fn take<J: Naming>(bench: &mut Bench<J>) -> Option<Parcel<J>>
+    requires { bench.old.away ≡ [] }
+    ensures same { bench.new ≡ record bench.old { taken = bench.new.taken; known = bench.new.known } }
+    ensures some { IfSome result (λ p. SameItems bench.new.taken (bench.old.taken ++ p ∷ [])) }
+    ensures none { IfNone result ((bench.new.taken ≡ bench.old.taken) × FoundOwnEmpty bench.old) }
+{
+    if let Some(parcel) = bench.drain() {
+        return Some(parcel);
+    }
+    'tries: for _ in 0..TRIES {
+        if let Some(parcel) = bench.steal() {
+            return Some(parcel);
+        }
+    }
+    None
 }
 
-/// Draws all arrows of a few cells at a seat, and pays for them. The memory for all cells that may be added is taken
-/// before the first step.
-pub(crate) fn parcel(
+/// Runs a parcel: takes its seat in, draws its cells, and offers those that are added. What comes back of these is drawn
+/// here, with all that comes of it.
+fn run<J: Naming>(
     alloc: Global,
     graph: &Graph,
     seat: Seat,
-    cells: &[u32],
+    bench: &mut Bench<J>,
+    parcel: Parcel<J>,
     hints: Hints,
-) -> Result<Drawn, NoMemory>
-    requires can { CanDraw graph.now cells.now seat }
-    requires few { length cells.now ≤ 64 }
-    ensures { IfOk result (λ d. IsDrawn cells.now seat d) }
+) -> Result<Ready, Stopped>
+    requires named { J.graph ≡ graph.now }
+    requires free { IsWaiting graph.now [] seat }
+    ensures { IsRun graph.now seat bench.old bench.new parcel result }
 {
-    let rank = graph.world().space().cartan().rank() as usize;
-    let room = cells.len() * (2 * rank);
-    let Ok(mut desk) = SharedDesk::with_hints(alloc, graph, seat, room, hints) else {
-        return Err(NoMemory);
-    };
-    let full = expand_all(&mut desk, cells);
-    let (seat, added, hints) = desk.into_parts_with_hints();
-    Ok(Drawn {
-        seat,
+    let mut seat = seat;
+    let cells = take_in(graph, &mut seat, parcel);
+    match draw_few(alloc, graph, seat, cells.as_slice(), hints) {
+        Ok(drawn) => share(alloc, graph, bench, drawn),
+        Err(NoRoom { seat }) => Err(Stopped {
+            seat,
+            ending: Ending::NoMemory,
+        }),
+    }
+}
+
+/// Offers what was added, and draws what comes back.
+fn share<J: Naming>(
+    alloc: Global,
+    graph: &Graph,
+    bench: &mut Bench<J>,
+    drawn: Drawn,
+) -> Result<Ready, Stopped>
+    requires named { J.graph ≡ graph.now }
+    requires belongs { Belongs drawn.seat graph.now }
+    requires pledge { drawn.seat.view.dues.pledge ≡ 0 }
+    requires ended { IsEnded graph.now drawn.added.items drawn.seat drawn.full }
+    ensures { IsShared graph.now drawn.seat drawn.added.items bench.old bench.new result }
+{
+    let Drawn {
+        mut seat,
         added,
         full,
         hints,
-    })
-}
-
-/// The first turn of a grower is its start, before anything else; then come its parcels.
-fn start<G: Gate>(gate: &G, worker: u32, turn: u64) -> u64 {
-    if turn == 0 {
-        gate.pass(worker, 0);
-        return 1;
-    }
-    turn
-}
-
-/// Does a job: draws all arrows of its cells, parcel by parcel, each after a turn of the gate.
-pub(crate) fn work<G: Gate>(graph: &Graph, gate: &G, job: Job) -> Result<Share, NoMemory>
-    requires { CanDraw graph.now job.cells.items job.seat }
-    ensures { IsDone job result }
-{
-    let Job {
-        alloc,
-        mut seat,
-        cells,
-        worker,
-        turn,
-    } = job;
+    } = drawn;
     let _stake = seat.stake();
-    let mut turn = start(gate, worker, turn);
-    let mut added = Vec::new(alloc);
-    let mut hints = Hints::new(alloc, cells.len())?;
-    let mut rest = cells.as_slice();
-    'parcels: while !rest.is_empty() {
-        let (part, later) = rest.split_at(usize::min(PARCEL, rest.len()));
-        gate.pass(worker, turn);
-        turn = turn.wrapping_add(1);
-        let drawn = parcel(alloc, graph, seat, part, hints)?;
-        seat = drawn.seat;
-        hints = drawn.hints;
-        added.extend_from_slice(drawn.added.as_slice())?;
-        if let Some(code) = drawn.full {
-            return Ok(Share {
-                seat,
-                added,
-                full: Some(code),
-                turn,
-            });
-        }
-        rest = later;
+    if let Some(code) = full {
+        let ending = Ending::Spent { code };
+        return Err(Stopped { seat, ending });
     }
-    Ok(Share {
+    match offer(graph, &mut seat, bench, added) {
+        Ok(back) => draw_back(alloc, graph, seat, back, hints),
+        Err(_) => Err(Stopped {
+            seat,
+            ending: Ending::NoMemory,
+        }),
+    }
+}
+
+/// Draws what came back.
+fn draw_back(
+    alloc: Global,
+    graph: &Graph,
+    seat: Seat,
+    back: Vec<u32>,
+    hints: Hints,
+) -> Result<Ready, Stopped>
+    requires { IsWaiting graph.now back.items seat }
+    ensures { IsDrawnBack graph.now seat result }
+{
+    match draw_out(alloc, graph, seat, &back, hints) {
+        Ok(drawn) => match drawn.full {
+            None => Ok(Ready {
+                seat: drawn.seat,
+                hints: drawn.hints,
+            }),
+            Some(code) => Err(Stopped {
+                seat: drawn.seat,
+                ending: Ending::Spent { code },
+            }),
+        },
+        Err(NoRoom { seat }) => Err(Stopped {
+            seat,
+            ending: Ending::NoMemory,
+        }),
+    }
+}
+
+/// Works until no parcel is found. The grower passes the gate before anything else, and then before each parcel. After
+/// so many parcels it takes those of its own deque alone, and draws all that comes of them; a growth does not come to
+/// that, since each of its parcels has a cell and there are at most 2^20.
+pub(crate) fn work<J: Naming, G: Gate>(graph: &Graph, gate: &G, start: Start<J>) -> Shift<J>
+    requires named { J.graph ≡ graph.now }
+    requires free { IsWaiting graph.now [] start.seat }
+    requires away { start.bench.away ≡ [] }
+    ensures { IsShift graph.now start.seat result.seat start.bench result.bench result.ending }
+{
+    let Start {
+        alloc,
+        worker,
+        mut seat,
+        mut bench,
+    } = start;
+    gate.pass(worker, 0);
+    let _stake = seat.stake();
+    let Ok(mut hints) = Hints::new(alloc, graph.world().cells() as usize) else {
+        let ending = Ending::NoMemory;
+        return Shift {
+            seat,
+            bench,
+            ending,
+        };
+    };
+    'parcels: for turn in 0..MOST_PARCELS {
+        let Some(parcel) = take(&mut bench) else {
+            let ending = Ending::Done;
+            return Shift {
+                seat,
+                bench,
+                ending,
+            };
+        };
+        gate.pass(worker, turn + 1);
+        match run(alloc, graph, seat, &mut bench, parcel, hints) {
+            Ok(ready) => {
+                seat = ready.seat;
+                hints = ready.hints;
+            }
+            Err(stopped) => {
+                return Shift {
+                    seat: stopped.seat,
+                    bench,
+                    ending: stopped.ending,
+                };
+            }
+        }
+    }
+    close(alloc, graph, seat, bench, hints)
+}
+
+/// Ends the work with the parcels of the own deque.
+fn close<J: Naming>(
+    alloc: Global,
+    graph: &Graph,
+    seat: Seat,
+    bench: Bench<J>,
+    hints: Hints,
+) -> Shift<J>
+    requires named { J.graph ≡ graph.now }
+    requires free { IsWaiting graph.now [] seat }
+    ensures { IsShift graph.now seat result.seat bench result.bench result.ending }
+{
+    let mut bench = bench;
+    let swept = Swept {
         seat,
-        added,
+        hints,
         full: None,
-        turn,
-    })
+    };
+    match sweep(alloc, graph, swept, &mut bench) {
+        Ok(Swept { seat, full, .. }) => {
+            let ending = ending_of(full);
+            Shift {
+                seat,
+                bench,
+                ending,
+            }
+        }
+        Err(NoRoom { seat }) => Shift {
+            seat,
+            bench,
+            ending: Ending::NoMemory,
+        },
+    }
+}
+
+/// How a grower ended that found no parcel any more, or no cell for the word with this code.
+fn ending_of(full: Option<u64>) -> Ending
+    ensures { IsEndingOf full result }
+{
+    match full {
+        None => Ending::Done,
+        Some(code) => Ending::Spent { code },
+    }
 }

@@ -14,11 +14,11 @@ use Rattle.graph_history.proofs.Histories.{stays_append}
 use Rattle.graph_history.proofs.Components.{closed_is_components, closed_fits, spent_outnumbers}
 use Rattle.graph_rule.specs.Rule.{whole, IsPrefix, IsKnown, IsComplete}
 use Rattle.graph_rule.specs.Values.{GraphValue, SeatValue, ClosedValue, Belongs}
-use Rattle.crystal_growers.specs.declared.rounds.Grown.{Grown}
-use Rattle.crystal_growers.specs.declared.rounds.Grown.TheVariants.{Closed, Full}
+use Rattle.crystal_growers.specs.declared.growing.Grown.{Grown}
+use Rattle.crystal_growers.specs.declared.growing.Grown.TheVariants.{Closed, Full}
 use Rattle.crystal_growers.specs.SharedDesks.{Worked}
 use Rattle.crystal_growers.specs.Work.{CanDraw}
-use Rattle.crystal_growers.specs.Rounds.{IsGrown, IsCovered}
+use Rattle.crystal_growers.specs.Grow.{IsGrown, IsCovered}
 use Rattle.crystal_growers.proofs.SharedSteps.{worked_belongs}
 use Rattle.graph_runs.specs.Runs.{HasSpent, Ends, closed as is_closed, spent as is_spent}
 use Rattle.graph_runs.specs.Ending.{CanEnd, IsOver}

@@ -9,9 +9,9 @@ use Rattle.graph_history.specs.declared.view.View.{View}
 use Rattle.graph_history.specs.History.{state_of, HasSome, IsLegal, calls}
 use Rattle.graph_rule.specs.Rule.{whole, IsPrefix}
 use Rattle.graph_rule.specs.Values.{GraphValue, SeatValue, Belongs}
-use Rattle.crystal_growers.specs.declared.rounds.Grown.{Grown}
-use Rattle.crystal_growers.specs.declared.rounds.Grown.TheVariants.{Closed, Full}
-use Rattle.crystal_growers.specs.Rounds.{IsGrown}
+use Rattle.crystal_growers.specs.declared.growing.Grown.{Grown}
+use Rattle.crystal_growers.specs.declared.growing.Grown.TheVariants.{Closed, Full}
+use Rattle.crystal_growers.specs.Grow.{IsGrown}
 use Rattle.job_text.specs.declared.commands.Command.{Command}
 use Rattle.session_desk.specs.declared.reply.Reply.{Reply}
 use Rattle.session_desk.specs.Replies.{replies}

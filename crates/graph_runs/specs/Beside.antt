@@ -3,7 +3,7 @@ use Rattle.std.specs.Prelude.{ℕ, ◌*◌, ◌^◌, ◌<◌, ◌≤◌, ◌≡�
 use Rattle.crystal_streams.specs.declared.faults.NoMemory.{NoMemory}
 use Rattle.graph_rule.specs.Values.{GraphValue, SeatValue, Belongs}
 use Rattle.crystal_growers.specs.Work.{CanDraw}
-use Rattle.crystal_growers.specs.Rounds.{IsCovered, IsGrown}
+use Rattle.crystal_growers.specs.Grow.{IsCovered, IsGrown}
 use Rattle.job_text.specs.declared.commands.Command.{Command}
 use Rattle.session_desk.specs.Replies.{replies}
 use Rattle.session_desk.specs.Sessions.{IsAsked}

@@ -9,8 +9,8 @@ use Rattle.graph_history.specs.Laws.{HasRoots}
 use Rattle.graph_rule.specs.Rule.{whole, IsPrefix, IsKnown}
 use Rattle.graph_rule.specs.Values.{GraphValue, SeatValue, Belongs}
 use Rattle.crystal_growers.specs.SharedDesks.{Worked}
-use Rattle.crystal_growers.specs.declared.rounds.Grown.{Grown}
-use Rattle.crystal_growers.specs.declared.rounds.Grown.TheVariants.{Closed, Full}
+use Rattle.crystal_growers.specs.declared.growing.Grown.{Grown}
+use Rattle.crystal_growers.specs.declared.growing.Grown.TheVariants.{Closed, Full}
 use Rattle.graph_runs.specs.Runs.{HasSpent, Ends}
 
 -- a seat that has the whole stake may end a run

@@ -16,6 +16,8 @@ mod look_ups;
 mod path;
 #[cfg(test)]
 mod tests;
+#[cfg(test)]
+mod tight_tests;
 
 pub use entries::{add, add_at};
 pub use look_ups::{find, word};

@@ -27,7 +27,7 @@ fn world(alloc: Global, cells: u32) -> Result<Option<World>, NoMemory> {
 }
 
 /// Adds a root, `None` where the code is that of no root.
-fn add_root(graph: &Graph, seat: &mut Seat, code: u64) -> Option<Added>
+pub(crate) fn add_root(graph: &Graph, seat: &mut Seat, code: u64) -> Option<Added>
     requires belongs { Belongs seat.old graph.now }
     requires pledge { seat.old.view.dues.pledge ≡ 0 }
     ensures belongs { Belongs seat.new graph.now }
@@ -52,7 +52,7 @@ fn add_root_at(graph: &Graph, seat: &mut Seat, code: u64, near: u32) -> Option<A
     Some(add_at(graph, seat, code, Origin::Root, near))
 }
 
-fn find_code(graph: &Graph, seat: &mut Seat, code: u64) -> Option<Option<u32>>
+pub(crate) fn find_code(graph: &Graph, seat: &mut Seat, code: u64) -> Option<Option<u32>>
     requires belongs { Belongs seat.old graph.now }
     requires pledge { seat.old.view.dues.pledge ≡ 0 }
     ensures belongs { Belongs seat.new graph.now }

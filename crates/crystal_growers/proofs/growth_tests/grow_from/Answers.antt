@@ -3,9 +3,9 @@ use Rattle.std.proofs.Common.{◌≡◌, ◌∙◌, sym, ap, subst, ℕ, List, [
 use Rattle.std.proofs.lemmas.List.Elements.{All-nil}
 use Rattle.graph_history.specs.declared.view.View.{View}
 use Rattle.graph_history.specs.History.{state_of, IsWhole}
-use Rattle.crystal_growers.specs.declared.rounds.Grown.{Grown}
-use Rattle.crystal_growers.specs.Rounds.{IsGrown}
-use Rattle.crystal_growers.proofs.Rounding.{nothing_unpaid}
+use Rattle.crystal_growers.specs.declared.growing.Grown.{Grown}
+use Rattle.crystal_growers.specs.Grow.{IsGrown}
+use Rattle.crystal_growers.proofs.Ended.{nothing_unpaid}
 use Rattle.crystal_growers.proofs.growth_tests.grow_from.Goals as goal
 
 pub settle-closed-requires-clause-finished : goal.settle-closed-requires-clause-finished

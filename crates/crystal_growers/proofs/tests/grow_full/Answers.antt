@@ -4,9 +4,9 @@ use Rattle.graph_history.specs.declared.event.Event.{Event}
 use Rattle.graph_history.specs.declared.view.Dues.{Dues}
 use Rattle.graph_history.specs.declared.view.View.{View}
 use Rattle.graph_history.specs.History.{state_of, IsWhole}
-use Rattle.crystal_growers.specs.declared.rounds.Grown.{Grown}
-use Rattle.crystal_growers.specs.declared.rounds.Grown.TheVariants.{Closed}
-use Rattle.crystal_growers.specs.Rounds.{GrowthEnded}
+use Rattle.crystal_growers.specs.declared.growing.Grown.{Grown}
+use Rattle.crystal_growers.specs.declared.growing.Grown.TheVariants.{Closed}
+use Rattle.crystal_growers.specs.Grow.{GrowthEnded}
 use Rattle.crystal_growers.proofs.tests.grow_full.Goals as goal
 
 -- a closed growth that was given all unpaid cells leaves none

@@ -1,46 +1,58 @@
--- A parcel is drawn after those before it.
-use Rattle.std.proofs.Common.{◌≡◌, ℕ, refl, sym, ap, subst, ◌∙◌, List, [], ◌++◌, Option, Some, None, Contains, append_assoc, rules}
-use Rattle.std.proofs.lemmas.List.Elements.{All-contains, Contains-append_left, Contains-append_right}
-use Rattle.graph_history.specs.History.{state_of, HasSome}
-use Rattle.crystal_growers.specs.Work.{CanDraw, HasDrawn}
-use Rattle.crystal_growers.proofs.DrawnCells.{drawn_none, drawn_then, can_next, drawn_part}
+-- Each parcel is run after those before it.
+use Rattle.std.proofs.Common.{◌≡◌, ◌∙◌, ap}
+use Rattle.parcel_deques.specs.Benches.{BenchValue, FoundOwnEmpty}
+use Rattle.parcel_deques.proofs.EndSteps.{of_none}
+use Rattle.crystal_growers.proofs.Running.{working_none, working_run, working_known, working_swept, failed_stops, none_stops}
 use Rattle.crystal_growers.proofs.work.work.Goals as goal
 
 pub parcels-init : goal.parcels-init
-parcels-init g c = record {
-  before = [];
-  is = sym c.as_slice-rest.ensures.value;
-  drawn = subst (λ (l : List ℕ). HasDrawn [] c.args.job.seat c.args.job.seat l None) (sym c.new-added.ensures.items) (drawn_none c.args.job.seat [] refl c.stake-stake.ensures.known c.stake-stake.ensures.complete c.requires.pledge);
-}
+parcels-init g c =
+    let s = c.args.start in
+    record {
+      working = working_none c.args.graph.now s.seat s.bench c.requires.free.can.belongs c.stake-stake.ensures.known c.requires.free.can.pledge;
+      free = c.requires.free;
+    }
 
-pub parcel-requires-clause-can : goal.parcel-requires-clause-can
-parcel-requires-clause-can g c =
-    let i = c.parcels.invariant in
-    let split : c.args.job.cells.items ≡ i.before ++ (c.split_at.result.0.now ++ c.split_at.result.1.now) = i.is ∙ ap (λ (l : List ℕ). i.before ++ l) c.split_at.ensures.by_index.0 in
-    can_next c.args.graph.now c.args.job.seat c.parcels.seat c.parcels.seat i.before c.split_at.result.0.now c.parcels.added.items c.split_at.result.1.now
-    (subst (λ (l : List ℕ). CanDraw c.args.graph.now l c.args.job.seat) split c.requires) i.drawn
+pub returns-in_default : goal.returns-in_default
+returns-in_default g c =
+    let s = c.args.start in
+    record { working = working_none c.args.graph.now s.seat s.bench c.requires.free.can.belongs c.stake-stake.ensures.known c.requires.free.can.pledge; stopped = tt }
 
-pub returns-in-Some : goal.returns-in-Some
-returns-in-Some g c =
+pub take-requires : goal.take-requires
+take-requires g c = ap (λ (b : BenchValue). b.away) c.parcels.invariant.working.served.is ∙ c.requires.away
+
+pub returns-in_default-take : goal.returns-in_default-take
+returns-in_default-take g c =
     let i = c.parcels.invariant in
-    let split : c.args.job.cells.items ≡ i.before ++ (c.split_at.result.0.now ++ c.split_at.result.1.now) = i.is ∙ ap (λ (l : List ℕ). i.before ++ l) c.split_at.ensures.by_index.0 in
-    let added : c.extend_from_slice.new.self.items ≡ c.parcels.added.items ++ c.in_ok-drawn.drawn.added.items = search rules in
-    let drawn = subst (λ (f : Option ℕ). HasDrawn c.split_at.result.0.now c.parcels.seat c.in_ok-drawn.drawn.seat c.in_ok-drawn.drawn.added.items f) c.in-Some.is c.in_ok-drawn.ensures in
-    subst (λ (l : List ℕ). HasDrawn c.args.job.cells.items c.args.job.seat c.in_ok-drawn.drawn.seat l (Some c.in-Some.code)) (sym added)
-    (drawn_part c.args.graph.now c.args.job.seat c.parcels.seat c.in_ok-drawn.drawn.seat i.before c.split_at.result.0.now c.split_at.result.1.now c.parcels.added.items c.in_ok-drawn.drawn.added.items c.args.job.cells.items c.in-Some.code split c.requires i.drawn drawn)
+    let w = i.working.worked.acted in
+    let none : (c.take.new.bench.taken ≡ c.parcels.bench.taken) × FoundOwnEmpty c.parcels.bench = of_none c.take.result c.in_default-take.not-Some c.take.ensures.none in
+    record {
+      working = working_known c.args.graph.now c.args.start.seat c.parcels.seat c.args.start.bench c.parcels.bench i.working c.take.new.bench c.take.ensures.same none.0 w.belongs w.known w.pledge;
+      stopped = none_stops c.args.graph.now c.parcels.seat c.parcels.bench c.take.new.bench i.free c.take.ensures.same none.0 none.1;
+    }
+
+pub returns-in-Err : goal.returns-in-Err
+returns-in-Err g c =
+    let i = c.parcels.invariant in
+    let r = c.in-Err.stopped in
+    record {
+      working = working_run c.args.graph.now c.args.start.seat c.parcels.seat c.args.start.bench c.parcels.bench i.working r.seat c.take.new.bench c.run.new.bench c.in-Some.parcel c.take.ensures.same c.in-Some.ensures.some c.in-Err.ensures.0;
+      stopped = failed_stops c.args.graph.now r.seat c.run.new.bench r.ending c.in-Err.ensures.1;
+    }
 
 pub parcels-preserved : goal.parcels-preserved
 parcels-preserved g c =
     let i = c.parcels.invariant in
-    let split : c.args.job.cells.items ≡ i.before ++ (c.split_at.result.0.now ++ c.split_at.result.1.now) = i.is ∙ ap (λ (l : List ℕ). i.before ++ l) c.split_at.ensures.by_index.0 in
-    let added : c.extend_from_slice.new.self.items ≡ c.parcels.added.items ++ c.in_ok-drawn.drawn.added.items = search rules in
-    let none : c.in_ok-drawn.drawn.full ≡ None = search rules in
-    let drawn = subst (λ (f : Option ℕ). HasDrawn c.split_at.result.0.now c.parcels.seat c.in_ok-drawn.drawn.seat c.in_ok-drawn.drawn.added.items f) none c.in_ok-drawn.ensures in
+    let r = c.in-Ok-run.ready in
     record {
-      before = i.before ++ c.split_at.result.0.now;
-      is = split ∙ sym (append_assoc i.before c.split_at.result.0.now c.split_at.result.1.now);
-      drawn = subst (λ (l : List ℕ). HasDrawn (i.before ++ c.split_at.result.0.now) c.args.job.seat c.in_ok-drawn.drawn.seat l None) (sym added)
-          (drawn_then c.args.graph.now c.args.job.seat c.parcels.seat c.in_ok-drawn.drawn.seat i.before c.split_at.result.0.now c.parcels.added.items c.in_ok-drawn.drawn.added.items None i.drawn drawn
-          (λ x h. All-contains (HasSome (state_of c.args.job.seat.view.front)) c.args.job.cells.items x c.requires.there
-          (subst (λ (l : List ℕ). Contains l x) (sym split) (Contains-append_right i.before (c.split_at.result.0.now ++ c.split_at.result.1.now) x (Contains-append_left c.split_at.result.0.now c.split_at.result.1.now x h)))));
+      working = working_run c.args.graph.now c.args.start.seat c.parcels.seat c.args.start.bench c.parcels.bench i.working r.seat c.take.new.bench c.run.new.bench c.in-Some.parcel c.take.ensures.same c.in-Some.ensures.some c.in-Ok-run.ensures.0;
+      free = c.in-Ok-run.ensures.1;
+    }
+
+pub returns : goal.returns
+returns g c =
+    let i = c.parcels.invariant in
+    record {
+      working = working_swept c.args.graph.now c.args.start.seat c.parcels.seat c.args.start.bench c.parcels.bench i.working c.close.result.seat c.close.result.bench c.close.ensures.working;
+      stopped = c.close.ensures.stopped;
     }

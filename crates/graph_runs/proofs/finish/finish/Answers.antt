@@ -1,5 +1,5 @@
 use Rattle.std.proofs.Common.{◌≡◌, subst, false, Bool, rules}
-use Rattle.crystal_growers.specs.declared.rounds.Grown.{Grown}
+use Rattle.crystal_growers.specs.declared.growing.Grown.{Grown}
 use Rattle.graph_runs.specs.Ending.{IsLeft, AllThere}
 use Rattle.graph_runs.proofs.Ending.{over_spent, over_left, over_ok}
 use Rattle.graph_runs.proofs.finish.finish.Goals as goal

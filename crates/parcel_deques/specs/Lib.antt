@@ -1,0 +1,10 @@
+pub mod Lists
+pub mod Parcels
+pub mod Rule
+pub mod Ends
+pub mod Benches
+pub mod Owners
+pub mod Making
+pub mod Gather
+pub mod Meeting
+pub mod Sharing
