@@ -44,7 +44,7 @@ class Times:
             ready = [
                 x
                 for x, firsts in waiting.items()
-                if firsts <= passed.keys() and (x not in self.one_of or not self.one_of[x].isdisjoint(passed))
+                if firsts <= passed.keys() and (x not in self.one_of or any(y in passed for y in self.one_of[x]))
             ]
             if not ready:
                 return passed

@@ -1,2 +1,4 @@
 pub mod Arrows
-pub mod Pieces
+mod Loops
+mod Printed
+mod Wholes

@@ -1,5 +1,5 @@
--- The texts of the modes `census` and `match`, but for the first line of `match` and the lines that they share with a
--- grown graph. Each line ends with byte 10.
+-- The lines of the modes `census`, `match` and `sample`, but for those that they share with a grown graph. Each line ends
+-- with byte 10.
 use Rattle.std.specs.Prelude.{ℕ, if◌then◌else◌, List, ◌∷◌, ◌++◌, length, codes, decimal}
 use Rattle.std.specs.List.{flat_map}
 use Rattle.crystal_cartan.specs.Types.{CartanType}
@@ -38,3 +38,13 @@ arrow_tokens walk = flat_map (λ a. 32 ∷ arrow_token a) walk
 -- the line where they differ: the first walk that tells the marked elements apart
 unfoldable pub differs_line : List Arrow → List ℕ
 differs_line walk = codes "differs" ++ arrow_tokens walk
+
+-- the lines of a sample job: its number, and how many sessions and commands it has
+unfoldable pub sample_line : ℕ → List ℕ
+sample_line number = codes "sample " ++ decimal number
+
+unfoldable pub sessions_line : ℕ → List ℕ
+sessions_line count = codes "sessions " ++ decimal count
+
+unfoldable pub commands_line : ℕ → List ℕ
+commands_line count = codes "commands " ++ decimal count

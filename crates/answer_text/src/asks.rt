@@ -1,38 +1,82 @@
 //! Answers to asks about a finished graph.
-ghost use Rattle.std.specs.Prelude.{◌≡◌, ◌+◌, ◌*◌, ◌^◌, ◌≤◌, ◌<◌, ◌++◌, ◌∷◌, length, All, OnOk};
+ghost use Rattle.std.specs.Prelude.{◌≡◌, ◌+◌, ◌*◌, ◌^◌, ◌≤◌, ◌<◌, ◌++◌, ◌∷◌, length, All};
 ghost use Rattle.std.specs.List.{flat_map};
 ghost use Rattle.crystal_cartan.specs.Types.{HasIndex};
 ghost use Rattle.crystal_cartan.specs.Weights.{IsSmall};
 ghost use Rattle.tableau_reading.specs.Texts.{word_text};
 ghost use Rattle.canonical_graph.specs.Texts.{vertex_word};
 ghost use Rattle.crystal_streams.specs.Lines.{ended};
+ghost use Rattle.answer_text.specs.Prints.{Prints};
 ghost use Rattle.answer_text.specs.Texts.{numbered};
 ghost use Rattle.answer_text.specs.Asks.{listed, product_text, demazure_head, member_line, demazure_text, tops_head, shape_text, top_line, tops_text, reflection_head, image_line, reflection_text};
+ghost use Rattle.answer_text.specs.Answers.{IsPrintableAsk, ask_text, asks_text};
 
-use crate::lines::print_behind_blank;
+use crate::answers::AskAnswer;
+use crate::lines::{keyed_line, line_of, print_behind_blank};
+use crate::pages::{Page, print_line};
 use canonical_graph::Finished;
 use crystal_cartan::Weight;
-use crystal_streams::{Line, NoMemory, push_line};
+use crystal_streams::{Line, Sink, WriteFault};
 use tableau_reading::{Shape, print_weight, print_word};
 use tensor_words::Order;
 
-/// Appends a Demazure subset: `demazure I1 I2 .. | COUNT`, and `RANK | WORD` for each member.
+/// Prints the answers to asks about a graph, in their order.
+pub(crate) fn print_asks<W: Sink>(
+    sink: &mut W,
+    page: &mut Page,
+    finished: &Finished,
+    asks: &[AskAnswer],
+) -> Result<(), WriteFault>
+    requires { All (IsPrintableAsk finished.now) asks.now }
+    ensures { Prints (W.held sink.old) (W.held sink.new) (W.faults sink.old) (W.faults sink.new) page.old page.new
+        (asks_text finished.now asks.now) result }
+{
+    'asks: for ask in asks {
+        print_ask(sink, page, finished, ask)?;
+    }
+    Ok(())
+}
+
+/// Prints the answer to an ask about a graph.
+fn print_ask<W: Sink>(
+    sink: &mut W,
+    page: &mut Page,
+    finished: &Finished,
+    ask: &AskAnswer,
+) -> Result<(), WriteFault>
+    requires { IsPrintableAsk finished.now ask.now }
+    ensures { Prints (W.held sink.old) (W.held sink.new) (W.faults sink.old) (W.faults sink.new) page.old page.new
+        (ask_text finished.now ask.now) result }
+{
+    match ask {
+        AskAnswer::Demazure { indices, ranks } => {
+            print_demazure(sink, page, finished, indices.as_slice(), ranks.as_slice())
+        }
+        AskAnswer::Tops { shape, tops } => print_tops(sink, page, finished, shape, tops.as_slice()),
+        AskAnswer::Reflection { index, images } => {
+            print_reflection(sink, page, *index, images.as_slice())
+        }
+    }
+}
+
+/// Prints a Demazure subset: `demazure I1 I2 .. | COUNT`, and `RANK | WORD` for each member.
 #[tactic(auto, unfolding(crate::specs::Asks::demazure_text))]
-pub fn push_demazure(
-    out: &mut Vec<u8>,
+pub(crate) fn print_demazure<W: Sink>(
+    sink: &mut W,
+    page: &mut Page,
     finished: &Finished,
     indices: &[u8],
     ranks: &[u32],
-) -> Result<(), NoMemory>
+) -> Result<(), WriteFault>
     requires indices { All (HasIndex finished.now.space.cartan) indices.now }
     requires few { length indices.now ≤ 64 }
     requires ranks { All (λ rank. rank < length finished.now.codes) ranks.now }
-    ensures { OnOk result (out.new.items ≡ out.old.items
-        ++ demazure_text finished.now indices.now ranks.now) }
+    ensures { Prints (W.held sink.old) (W.held sink.new) (W.faults sink.old) (W.faults sink.new) page.old page.new
+        (demazure_text finished.now indices.now ranks.now) result }
 {
     let _space = finished.space();
-    push_line(out, &demazure_head(indices, ranks.len()))?;
-    push_members(out, finished, ranks)
+    print_line(sink, page, &demazure_head(indices, ranks.len()))?;
+    print_members(sink, page, finished, ranks)
 }
 
 #[tactic(auto, unfolding(crate::specs::Asks::demazure_head))]
@@ -42,8 +86,7 @@ fn demazure_head(indices: &[u8], count: usize) -> Line
     requires count { count < 2 ^ 63 }
     ensures { result ≡ demazure_head indices.now count }
 {
-    let mut line = Line::new();
-    line.text(b"demazure");
+    let mut line = line_of(b"demazure");
     print_indices(indices, &mut line);
     line.text(b" | ");
     line.number(count as i64);
@@ -62,14 +105,19 @@ fn print_indices(indices: &[u8], line: &mut Line)
     }
 }
 
-/// Appends a line for each member of a subset.
-fn push_members(out: &mut Vec<u8>, finished: &Finished, ranks: &[u32]) -> Result<(), NoMemory>
+/// Prints a line for each member of a subset.
+fn print_members<W: Sink>(
+    sink: &mut W,
+    page: &mut Page,
+    finished: &Finished,
+    ranks: &[u32],
+) -> Result<(), WriteFault>
     requires { All (λ rank. rank < length finished.now.codes) ranks.now }
-    ensures { OnOk result (out.new.items ≡ out.old.items
-        ++ flat_map (λ rank. ended (member_line finished.now rank)) ranks.now) }
+    ensures { Prints (W.held sink.old) (W.held sink.new) (W.faults sink.old) (W.faults sink.new) page.old page.new
+        (flat_map (λ rank. ended (member_line finished.now rank)) ranks.now) result }
 {
     'members: for rank in ranks {
-        push_line(out, &member_line(finished, *rank))?;
+        print_line(sink, page, &member_line(finished, *rank))?;
     }
     Ok(())
 }
@@ -87,23 +135,24 @@ fn member_line(finished: &Finished, rank: u32) -> Line
     line
 }
 
-/// Appends the product tops with a shape: `tops N1 N2 .. | COUNT` with the lengths of its rows, and `WORD | WEIGHT`
+/// Prints the product tops with a shape: `tops N1 N2 .. | COUNT` with the lengths of its rows, and `WORD | WEIGHT`
 /// for each top. The word is that of the vertex followed by the top word of the shape, in Kashiwara's tensor order the
 /// other way round.
 #[tactic(auto, unfolding(crate::specs::Asks::tops_text))]
-pub fn push_tops(
-    out: &mut Vec<u8>,
+pub(crate) fn print_tops<W: Sink>(
+    sink: &mut W,
+    page: &mut Page,
     finished: &Finished,
     shape: &Shape,
     tops: &[(u32, Weight)],
-) -> Result<(), NoMemory>
+) -> Result<(), WriteFault>
     requires ranks { All (λ top. top.0 < length finished.now.codes) tops.now }
     requires small { All (λ top. IsSmall top.1) tops.now }
-    ensures { OnOk result (out.new.items ≡ out.old.items
-        ++ tops_text finished.now shape.now tops.now) }
+    ensures { Prints (W.held sink.old) (W.held sink.new) (W.faults sink.old) (W.faults sink.new) page.old page.new
+        (tops_text finished.now shape.now tops.now) result }
 {
-    push_line(out, &tops_head(shape, tops.len()))?;
-    push_top_lines(out, finished, &shape_line(shape), tops)
+    print_line(sink, page, &tops_head(shape, tops.len()))?;
+    print_top_lines(sink, page, finished, &shape_line(shape), tops)
 }
 
 #[tactic(auto, unfolding(crate::specs::Asks::tops_head))]
@@ -111,8 +160,7 @@ fn tops_head(shape: &Shape, count: usize) -> Line
     requires { count < 2 ^ 63 }
     ensures { result ≡ tops_head shape.now.rows count }
 {
-    let mut line = Line::new();
-    line.text(b"tops");
+    let mut line = line_of(b"tops");
     print_rows(shape, &mut line);
     line.text(b" | ");
     line.number(count as i64);
@@ -141,21 +189,22 @@ fn shape_line(shape: &Shape) -> Line
     line
 }
 
-/// Appends a line for each top, given the top word of the shape as it is printed.
-fn push_top_lines(
-    out: &mut Vec<u8>,
+/// Prints a line for each top, given the top word of the shape as it is printed.
+fn print_top_lines<W: Sink>(
+    sink: &mut W,
+    page: &mut Page,
     finished: &Finished,
     word: &Line,
     tops: &[(u32, Weight)],
-) -> Result<(), NoMemory>
+) -> Result<(), WriteFault>
     requires short { length word.now ≤ 160 }
     requires ranks { All (λ top. top.0 < length finished.now.codes) tops.now }
     requires small { All (λ top. IsSmall top.1) tops.now }
-    ensures { OnOk result (out.new.items ≡ out.old.items
-        ++ flat_map (λ top. ended (top_line finished.now word.now top.0 top.1)) tops.now) }
+    ensures { Prints (W.held sink.old) (W.held sink.new) (W.faults sink.old) (W.faults sink.new) page.old page.new
+        (flat_map (λ top. ended (top_line finished.now word.now top.0 top.1)) tops.now) result }
 {
     'tops: for (rank, weight) in tops {
-        push_line(out, &top_line(finished, word, *rank, weight))?;
+        print_line(sink, page, &top_line(finished, word, *rank, weight))?;
     }
     Ok(())
 }
@@ -205,21 +254,26 @@ fn joined(first: &Line, second: &Line) -> Line
     ensures text { result ≡ first.now ++ 32 ∷ second.now }
     ensures fits { length result ≤ 321 }
 {
-    let mut line = Line::new();
-    line.text(first.bytes());
+    let mut line = line_of(first.bytes());
     line.text(b" ");
     line.text(second.bytes());
     line
 }
 
-/// Appends the reflection of an index: `reflect I | COUNT`, and `RANK | IMAGE` for each vertex in ascending rank.
+/// Prints the reflection of an index: `reflect I | COUNT`, and `RANK | IMAGE` for each vertex in ascending rank.
 #[tactic(auto, unfolding(crate::specs::Asks::reflection_text))]
-pub fn push_reflection(out: &mut Vec<u8>, index: u8, images: &[u32]) -> Result<(), NoMemory>
+pub(crate) fn print_reflection<W: Sink>(
+    sink: &mut W,
+    page: &mut Page,
+    index: u8,
+    images: &[u32],
+) -> Result<(), WriteFault>
     requires { length images.now < 2 ^ 32 }
-    ensures { OnOk result (out.new.items ≡ out.old.items ++ reflection_text index images.now) }
+    ensures { Prints (W.held sink.old) (W.held sink.new) (W.faults sink.old) (W.faults sink.new) page.old page.new
+        (reflection_text index images.now) result }
 {
-    push_line(out, &reflection_head(index, images.len()))?;
-    push_images(out, images)
+    print_line(sink, page, &reflection_head(index, images.len()))?;
+    print_images(sink, page, images)
 }
 
 #[tactic(auto, unfolding(crate::specs::Asks::reflection_head))]
@@ -227,22 +281,20 @@ fn reflection_head(index: u8, count: usize) -> Line
     requires { count < 2 ^ 63 }
     ensures { result ≡ reflection_head index count }
 {
-    let mut line = Line::new();
-    line.text(b"reflect ");
-    line.number(i64::from(index));
+    let mut line = keyed_line(b"reflect ", u64::from(index));
     line.text(b" | ");
     line.number(count as i64);
     line
 }
 
-/// Appends a line for each vertex and its image.
-fn push_images(out: &mut Vec<u8>, images: &[u32]) -> Result<(), NoMemory>
+/// Prints a line for each vertex and its image.
+fn print_images<W: Sink>(sink: &mut W, page: &mut Page, images: &[u32]) -> Result<(), WriteFault>
     requires { length images.now < 2 ^ 32 }
-    ensures { OnOk result (out.new.items ≡ out.old.items
-        ++ numbered (λ rank image. ended (image_line rank image)) 0 images.now) }
+    ensures { Prints (W.held sink.old) (W.held sink.new) (W.faults sink.old) (W.faults sink.new) page.old page.new
+        (numbered (λ rank image. ended (image_line rank image)) 0 images.now) result }
 {
     'images: for place in 0..images.len() {
-        push_line(out, &image_line(place as u32, images[place]))?;
+        print_line(sink, page, &image_line(place as u32, images[place]))?;
     }
     Ok(())
 }

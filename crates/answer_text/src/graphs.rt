@@ -1,30 +1,49 @@
-//! A finished graph, what stands in its place, and the statistics of its vertices.
-ghost use Rattle.std.specs.Prelude.{◌≡◌, ◌≤◌, ◌<◌, ◌++◌, length, pos, OnOk};
+//! A finished graph, and the statistics of its vertices.
+ghost use Rattle.std.specs.Prelude.{◌≡◌, ◌≤◌, ◌<◌, length, pos, string_bytes};
 ghost use Rattle.canonical_graph.specs.Graphs.{arrow_count};
 ghost use Rattle.canonical_graph.specs.Texts.{vertex_text};
 ghost use Rattle.crystal_streams.specs.Lines.{ended};
-ghost use Rattle.answer_text.specs.Texts.{graph_head, vertex_lines, graph_part, full_line, statistic_head, statistic_text};
+ghost use Rattle.answer_text.specs.Prints.{Prints};
+ghost use Rattle.answer_text.specs.Texts.{graph_head, vertex_lines, graph_part, statistic_head, statistic_text};
+ghost use Rattle.answer_text.specs.Answers.{AreShort, reports_text};
 
+use crate::answers::Report;
+use crate::lines::{keyed_line, line_of};
+use crate::pages::{Page, print_line, print_text};
 use canonical_graph::Finished;
-use crystal_streams::{Line, NoMemory, push_line};
+use crystal_streams::{Line, Sink, WriteFault};
 
-/// Appends a graph: `graph V E`, the numbers of vertices and of f arrows, and a line for each vertex in ascending
+/// Prints a graph: `graph V E`, the numbers of vertices and of f arrows, and a line for each vertex in ascending
 /// rank, `RANK | WORD | WEIGHT | ARROWS`.
-#[tactic(auto, unfolding(crate::specs::Texts::graph_part))]
-pub fn push_graph(out: &mut Vec<u8>, finished: &Finished) -> Result<(), NoMemory>
-    ensures { OnOk result (out.new.items ≡ out.old.items ++ graph_part finished.now) }
+pub(crate) fn print_graph<W: Sink>(
+    sink: &mut W,
+    page: &mut Page,
+    finished: &Finished,
+) -> Result<(), WriteFault>
+    ensures { Prints (W.held sink.old) (W.held sink.new) (W.faults sink.old) (W.faults sink.new) page.old page.new
+        (graph_part finished.now) result }
 {
-    push_line(out, &graph_head(finished))?;
-    push_vertices(out, finished)
+    print_sizes(sink, page, finished)?;
+    print_vertices(sink, page, finished)
+}
+
+/// Prints the sizes of a graph: `graph V E`, the numbers of vertices and of f arrows.
+pub(crate) fn print_sizes<W: Sink>(
+    sink: &mut W,
+    page: &mut Page,
+    finished: &Finished,
+) -> Result<(), WriteFault>
+    ensures { Prints (W.held sink.old) (W.held sink.new) (W.faults sink.old) (W.faults sink.new) page.old page.new
+        (ended (graph_head finished.now)) result }
+{
+    print_line(sink, page, &graph_head(finished))
 }
 
 #[tactic(auto, unfolding(crate::specs::Texts::graph_head))]
 fn graph_head(finished: &Finished) -> Line
     ensures { result ≡ graph_head finished.now }
 {
-    let mut line = Line::new();
-    line.text(b"graph ");
-    line.number(i64::from(finished.len()));
+    let mut line = keyed_line(b"graph ", u64::from(finished.len()));
     line.text(b" ");
     line.number(arrow_number(finished));
     line
@@ -38,13 +57,17 @@ fn arrow_number(finished: &Finished) -> i64
     finished.arrows() as i64
 }
 
-/// Appends a line for each vertex, in ascending rank.
-fn push_vertices(out: &mut Vec<u8>, finished: &Finished) -> Result<(), NoMemory>
-    ensures { OnOk result (out.new.items ≡ out.old.items
-        ++ vertex_lines finished.now 0 (length finished.now.codes)) }
+/// Prints a line for each vertex, in ascending rank.
+fn print_vertices<W: Sink>(
+    sink: &mut W,
+    page: &mut Page,
+    finished: &Finished,
+) -> Result<(), WriteFault>
+    ensures { Prints (W.held sink.old) (W.held sink.new) (W.faults sink.old) (W.faults sink.new) page.old page.new
+        (vertex_lines finished.now 0 (length finished.now.codes)) result }
 {
     'ranks: for rank in 0..finished.len() {
-        push_line(out, &vertex_line(finished, rank))?;
+        print_line(sink, page, &vertex_line(finished, rank))?;
     }
     Ok(())
 }
@@ -58,31 +81,34 @@ fn vertex_line(finished: &Finished, rank: u32) -> Line
     line
 }
 
-/// Appends the line that stands in place of a graph that has more vertices than there are cells: `full`.
-pub fn push_full(out: &mut Vec<u8>) -> Result<(), NoMemory>
-    ensures { OnOk result (out.new.items ≡ out.old.items ++ ended full_line) }
+/// Prints the reports of statistics, in their order.
+pub(crate) fn print_reports<W: Sink>(
+    sink: &mut W,
+    page: &mut Page,
+    reports: &[Report],
+) -> Result<(), WriteFault>
+    requires { AreShort reports.now }
+    ensures { Prints (W.held sink.old) (W.held sink.new) (W.faults sink.old) (W.faults sink.new) page.old page.new
+        (reports_text reports.now) result }
 {
-    push_line(out, &full())
-}
-
-#[tactic(auto, unfolding(crate::specs::Texts::full_line))]
-fn full() -> Line
-    ensures { result ≡ full_line }
-{
-    let mut line = Line::new();
-    line.text(b"full");
-    line
-}
-
-/// Appends a statistic: `statistic NAME`, and its report, whose lines have their ends already.
-#[tactic(auto, unfolding(crate::specs::Texts::statistic_text))]
-pub fn push_statistic(out: &mut Vec<u8>, name: &[u8], report: &[u8]) -> Result<(), NoMemory>
-    requires { length name.now ≤ 64 }
-    ensures { OnOk result (out.new.items ≡ out.old.items ++ statistic_text name.now report.now) }
-{
-    push_line(out, &statistic_head(name))?;
-    out.extend_from_slice(report)?;
+    'reports: for report in reports {
+        print_report(sink, page, report)?;
+    }
     Ok(())
+}
+
+/// Prints the report of a statistic: `statistic NAME`, and the report as it is.
+pub(crate) fn print_report<W: Sink>(
+    sink: &mut W,
+    page: &mut Page,
+    report: &Report,
+) -> Result<(), WriteFault>
+    requires { length (string_bytes report.now.name) ≤ 64 }
+    ensures { Prints (W.held sink.old) (W.held sink.new) (W.faults sink.old) (W.faults sink.new) page.old page.new
+        (statistic_text (string_bytes report.now.name) report.now.bytes.items) result }
+{
+    print_line(sink, page, &statistic_head(report.name.as_bytes()))?;
+    print_text(sink, page, report.bytes.as_slice())
 }
 
 #[tactic(auto, unfolding(crate::specs::Texts::statistic_head))]
@@ -90,8 +116,7 @@ fn statistic_head(name: &[u8]) -> Line
     requires { length name.now ≤ 64 }
     ensures { result ≡ statistic_head name.now }
 {
-    let mut line = Line::new();
-    line.text(b"statistic ");
+    let mut line = line_of(b"statistic ");
     line.text(name);
     line
 }

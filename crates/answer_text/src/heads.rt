@@ -1,24 +1,37 @@
-//! The first and the last line of a text, and the one line of a refusal.
-ghost use Rattle.std.specs.Prelude.{◌≡◌, ◌≤◌, ◌++◌, length, OnOk};
+//! The first and the last line of a text, the line in place of what is too large, and the one line of a refusal.
+ghost use Rattle.std.specs.Prelude.{◌≡◌, ◌≤◌, length};
 ghost use Rattle.crystal_streams.specs.Lines.{ended};
-ghost use Rattle.answer_text.specs.Texts.{type_line, head_line, end_line, words_refusal_line, words_refusal, job_refusal_line, job_refusal};
+ghost use Rattle.answer_text.specs.Prints.{Prints};
+ghost use Rattle.answer_text.specs.Texts.{type_line, head_line, full_line, end_line, words_refusal, job_refusal_line, job_refusal};
 ghost use Rattle.answer_text.specs.Modes.{census_line};
 
+use crate::lines::{keyed_line, line_of};
+use crate::pages::{Page, print_line};
 use crystal_cartan::{Cartan, Kind};
-use crystal_streams::{Line, NoMemory, push_line};
+use crystal_streams::{Line, Sink, WriteFault};
 
-/// Appends the first line: `crystal K R`, the kind and the rank.
-pub fn push_head(out: &mut Vec<u8>, cartan: Cartan) -> Result<(), NoMemory>
-    ensures { OnOk result (out.new.items ≡ out.old.items ++ ended (head_line cartan)) }
+/// Prints the first line: `crystal K R`, the kind and the rank.
+pub(crate) fn print_head<W: Sink>(
+    sink: &mut W,
+    page: &mut Page,
+    cartan: Cartan,
+) -> Result<(), WriteFault>
+    ensures { Prints (W.held sink.old) (W.held sink.new) (W.faults sink.old) (W.faults sink.new) page.old page.new
+        (ended (head_line cartan)) result }
 {
-    push_line(out, &type_line(b"crystal ", cartan))
+    print_line(sink, page, &type_line(b"crystal ", cartan))
 }
 
-/// Appends the first line of a census: `census K R`, the kind and the rank.
-pub fn push_census_head(out: &mut Vec<u8>, cartan: Cartan) -> Result<(), NoMemory>
-    ensures { OnOk result (out.new.items ≡ out.old.items ++ ended (census_line cartan)) }
+/// Prints the first line of a census: `census K R`, the kind and the rank.
+pub(crate) fn print_census_head<W: Sink>(
+    sink: &mut W,
+    page: &mut Page,
+    cartan: Cartan,
+) -> Result<(), WriteFault>
+    ensures { Prints (W.held sink.old) (W.held sink.new) (W.faults sink.old) (W.faults sink.new) page.old page.new
+        (ended (census_line cartan)) result }
 {
-    push_line(out, &type_line(b"census ", cartan))
+    print_line(sink, page, &type_line(b"census ", cartan))
 }
 
 /// The first word of a text, with the blank behind it, and a kind and a rank.
@@ -27,8 +40,7 @@ fn type_line(word: &[u8], cartan: Cartan) -> Line
     requires { length word.now ≤ 8 }
     ensures { result ≡ type_line word.now cartan }
 {
-    let mut line = Line::new();
-    line.text(word);
+    let mut line = line_of(word);
     line.text(match cartan.kind() {
         Kind::A => b"A",
         Kind::B => b"B",
@@ -40,53 +52,52 @@ fn type_line(word: &[u8], cartan: Cartan) -> Line
     line
 }
 
-/// Appends the last line: `end`.
-pub fn push_end(out: &mut Vec<u8>) -> Result<(), NoMemory>
-    ensures { OnOk result (out.new.items ≡ out.old.items ++ ended end_line) }
+/// Prints the line that stands in place of what is too large: `full`.
+pub(crate) fn print_full<W: Sink>(sink: &mut W, page: &mut Page) -> Result<(), WriteFault>
+    ensures { Prints (W.held sink.old) (W.held sink.new) (W.faults sink.old) (W.faults sink.new) page.old page.new
+        (ended full_line) result }
 {
-    push_line(out, &end())
+    print_line(sink, page, &line_of(b"full"))
 }
 
-#[tactic(auto, unfolding(crate::specs::Texts::end_line))]
-fn end() -> Line
-    ensures { result ≡ end_line }
+/// Prints the last line: `end`.
+pub(crate) fn print_end<W: Sink>(sink: &mut W, page: &mut Page) -> Result<(), WriteFault>
+    ensures { Prints (W.held sink.old) (W.held sink.new) (W.faults sink.old) (W.faults sink.new) page.old page.new
+        (ended end_line) result }
 {
-    let mut line = Line::new();
-    line.text(b"end");
-    line
+    print_line(sink, page, &line_of(b"end"))
 }
 
-/// Appends the line for refused command words: `refused words K`, K being the number of their fault.
-pub fn push_words_refusal(out: &mut Vec<u8>, fault: u8) -> Result<(), NoMemory>
-    ensures { OnOk result (out.new.items ≡ out.old.items ++ words_refusal fault) }
+/// Prints the line for refused command words: `refused words K`, K being the number of their fault.
+pub(crate) fn print_words_refusal<W: Sink>(
+    sink: &mut W,
+    page: &mut Page,
+    fault: u8,
+) -> Result<(), WriteFault>
+    ensures { Prints (W.held sink.old) (W.held sink.new) (W.faults sink.old) (W.faults sink.new) page.old page.new
+        (words_refusal fault) result }
 {
-    push_line(out, &refused_words(fault))
+    print_line(sink, page, &keyed_line(b"refused words ", u64::from(fault)))
 }
 
-#[tactic(auto, unfolding(crate::specs::Texts::words_refusal_line))]
-fn refused_words(fault: u8) -> Line
-    ensures { result ≡ words_refusal_line fault }
+/// Prints the line for a refused job: `refused job line L fault K`. The line is 0 where the fault is none of a line.
+pub(crate) fn print_job_refusal<W: Sink>(
+    sink: &mut W,
+    page: &mut Page,
+    line: u32,
+    fault: u8,
+) -> Result<(), WriteFault>
+    ensures { Prints (W.held sink.old) (W.held sink.new) (W.faults sink.old) (W.faults sink.new) page.old page.new
+        (job_refusal line fault) result }
 {
-    let mut line = Line::new();
-    line.text(b"refused words ");
-    line.number(i64::from(fault));
-    line
-}
-
-/// Appends the line for a refused job: `refused job line L fault K`. The line is 0 where the fault is none of a line.
-pub fn push_job_refusal(out: &mut Vec<u8>, line: u32, fault: u8) -> Result<(), NoMemory>
-    ensures { OnOk result (out.new.items ≡ out.old.items ++ job_refusal line fault) }
-{
-    push_line(out, &refused_job(line, fault))
+    print_line(sink, page, &refused_job(line, fault))
 }
 
 #[tactic(auto, unfolding(crate::specs::Texts::job_refusal_line))]
 fn refused_job(at: u32, fault: u8) -> Line
     ensures { result ≡ job_refusal_line at fault }
 {
-    let mut line = Line::new();
-    line.text(b"refused job line ");
-    line.number(i64::from(at));
+    let mut line = keyed_line(b"refused job line ", u64::from(at));
     line.text(b" fault ");
     line.number(i64::from(fault));
     line

@@ -1,28 +1,33 @@
-//! The parts of the answer text, line by line, behind a vector of bytes. Nothing is computed here: what is printed is
-//! handed in.
+//! Answers as data, and their texts, printed to a sink.
 //!
-//! **Promises.** Each call appends just the text that specs/Texts.antt, specs/Asks.antt and specs/Modes.antt give to what
-//! is handed in, each line with its end, or wants memory. `heads` has the first and the last line and the refusals,
-//! `sessions` the replies, `graphs` the graph and the statistics, `asks` the answers to asks, `censuses` the tableaux of a
-//! census, `matches` what a comparison came to; `lines` is the module to read first.
+//! **Promises.** `print_answer` (`printing`, the module to read first) prints an answer to a sink: just the text that
+//! `answer_bytes` of specs/Answers.antt gives, or a front of it where a write failed. Nothing is computed and no memory is
+//! taken: what is printed is handed in (`answers`), and so is the page on which lines are gathered (`pages`).
+//!
+//! **Where to read.** Every function that prints has one clause, `Prints` of specs/Prints.antt: what the sink took and
+//! what is left on the page are together what was on the page before and the printed text. `heads` has the first and the
+//! last line and the refusals, `sessions` the replies, `graphs` the graph and the reports of statistics, `asks` the
+//! answers to asks, `censuses` the tableaux of a census, `matches` what a comparison came to, `samples` a sample job;
+//! `lines` makes short lines.
 //!
 //! **Stands on** canonical_graph and session_desk for the text of a vertex and of a reply, tableau_reading for words and
-//! weights, crystal_streams for a line.
+//! weights, crystal_match for verdicts, crystal_streams for lines and sinks.
 #![tactic(auto)]
 
+mod answers;
 mod asks;
 mod censuses;
 mod graphs;
 mod heads;
 mod lines;
 mod matches;
+mod pages;
+mod printing;
+mod samples;
 mod sessions;
 #[cfg(test)]
 mod tests;
 
-pub use asks::{push_demazure, push_reflection, push_tops};
-pub use censuses::push_tableaux;
-pub use graphs::{push_full, push_graph, push_statistic};
-pub use heads::{push_census_head, push_end, push_head, push_job_refusal, push_words_refusal};
-pub use matches::{push_differs, push_same};
-pub use sessions::{push_session, push_sessions};
+pub use answers::{Answer, AskAnswer, Report, Whole};
+pub use pages::Page;
+pub use printing::print_answer;

@@ -1,55 +1,70 @@
 //! What the comparison of two components came to.
-ghost use Rattle.std.specs.Prelude.{◌≡◌, ◌^◌, ◌<◌, ◌≤◌, ◌∷◌, ◌++◌, length, OnOk};
+ghost use Rattle.std.specs.Prelude.{◌≡◌, ◌∷◌, IfSome};
 ghost use Rattle.crystal_streams.specs.Lines.{ended};
-ghost use Rattle.answer_text.specs.Modes.{same_line, arrow_token, arrow_tokens, differs_line};
+ghost use Rattle.answer_text.specs.Prints.{Prints};
+ghost use Rattle.answer_text.specs.Modes.{arrow_token, arrow_tokens, differs_line};
+ghost use Rattle.answer_text.specs.Answers.{IsPrintableVerdict, verdict_line};
 
+use crate::heads::print_full;
+use crate::lines::{keyed_line, line_of};
+use crate::pages::{Page, print_line, print_piece};
 use crystal_cartan::Arrow;
-use crystal_streams::{Line, NoMemory, push_line};
+use crystal_match::Verdict;
+use crystal_streams::{Line, Sink, WriteFault};
 
-/// Appends the line of two components that are alike: `same COUNT`, the number of pairs.
-pub fn push_same(out: &mut Vec<u8>, count: usize) -> Result<(), NoMemory>
-    requires { count < 2 ^ 63 }
-    ensures { OnOk result (out.new.items ≡ out.old.items ++ ended (same_line count)) }
-{
-    push_line(out, &same_line(count))
-}
-
+/// Prints the line of a verdict, or `full` where there is none: `same COUNT` with the number of pairs, or `differs` with
+/// the walk that tells the two apart.
 #[tactic(auto, unfolding(crate::specs::Modes::same_line))]
-fn same_line(count: usize) -> Line
-    requires { count < 2 ^ 63 }
-    ensures { result ≡ same_line count }
+pub(crate) fn print_verdict<W: Sink>(
+    sink: &mut W,
+    page: &mut Page,
+    verdict: &Option<Verdict>,
+) -> Result<(), WriteFault>
+    requires { IfSome verdict.now IsPrintableVerdict }
+    ensures { Prints (W.held sink.old) (W.held sink.new) (W.faults sink.old) (W.faults sink.new) page.old page.new
+        (ended (verdict_line verdict.now)) result }
 {
-    let mut line = Line::new();
-    line.text(b"same ");
-    line.number(count as i64);
-    line
+    match verdict {
+        Some(Verdict::Same { pairs }) => print_line(
+            sink,
+            page,
+            &keyed_line(b"same ", pairs.len() as u64),
+        ),
+        Some(Verdict::Differs { walk }) => print_differs(sink, page, walk.as_slice()),
+        None => print_full(sink, page),
+    }
 }
 
-/// Appends the line of two components that differ: `differs`, and the arrows of the walk that tells them apart, as
-/// `f1 e2`. Nothing bounds the number of arrows, so they are written one by one behind the text.
+/// Prints the line of two components that differ: `differs`, and the arrows of the walk that tells them apart, as
+/// `f1 e2`. Nothing bounds the number of arrows, so they are printed one by one.
 #[tactic(auto, unfolding(crate::specs::Modes::differs_line))]
-pub fn push_differs(out: &mut Vec<u8>, walk: &[Arrow]) -> Result<(), NoMemory>
-    ensures { OnOk result (out.new.items ≡ out.old.items ++ ended (differs_line walk.now)) }
+pub(crate) fn print_differs<W: Sink>(
+    sink: &mut W,
+    page: &mut Page,
+    walk: &[Arrow],
+) -> Result<(), WriteFault>
+    ensures { Prints (W.held sink.old) (W.held sink.new) (W.faults sink.old) (W.faults sink.new) page.old page.new
+        (ended (differs_line walk.now)) result }
 {
-    out.extend_from_slice(b"differs")?;
-    push_arrows(out, walk)?;
-    out.push(b'\n')?;
-    Ok(())
+    print_piece(sink, page, &line_of(b"differs"))?;
+    print_arrows(sink, page, walk)?;
+    print_line(sink, page, &Line::new())
 }
 
-/// Appends arrows, each with a blank in front of it.
-fn push_arrows(out: &mut Vec<u8>, walk: &[Arrow]) -> Result<(), NoMemory>
-    ensures { OnOk result (out.new.items ≡ out.old.items ++ arrow_tokens walk.now) }
+/// Prints arrows, each with a blank in front of it.
+fn print_arrows<W: Sink>(sink: &mut W, page: &mut Page, walk: &[Arrow]) -> Result<(), WriteFault>
+    ensures { Prints (W.held sink.old) (W.held sink.new) (W.faults sink.old) (W.faults sink.new) page.old page.new
+        (arrow_tokens walk.now) result }
 {
     'arrows: for arrow in walk {
-        out.extend_from_slice(token_line(*arrow).bytes())?;
+        print_piece(sink, page, &token(*arrow))?;
     }
     Ok(())
 }
 
 /// A blank and an arrow.
 #[tactic(auto, unfolding(crate::specs::Modes::arrow_token))]
-fn token_line(arrow: Arrow) -> Line
+fn token(arrow: Arrow) -> Line
     ensures { result ≡ 32 ∷ arrow_token arrow }
 {
     let mut line = Line::new();

@@ -1,59 +1,62 @@
 //! What the sessions were told.
-ghost use Rattle.std.specs.Prelude.{◌≡◌, ℕ, ◌^◌, ◌<◌, ◌++◌, [], length, slice_index_or, All, OnOk};
+ghost use Rattle.std.specs.Prelude.{◌≡◌, All};
 ghost use Rattle.session_desk.specs.Texts.{IsPrintable, reply_text};
-ghost use Rattle.answer_text.specs.Texts.{session_head, reply_lines, session_text, sessions_text};
+ghost use Rattle.answer_text.specs.Prints.{Prints};
+ghost use Rattle.answer_text.specs.Texts.{reply_lines, session_text, sessions_text};
+ghost use Rattle.answer_text.specs.Answers.{ArePrintable};
 
-use crystal_streams::{Line, NoMemory, push_line};
+use crate::lines::keyed_line;
+use crate::pages::{Page, print_line};
+use crystal_streams::{Line, Sink, WriteFault};
 use session_desk::{Replies, Reply, reply_line};
 use tensor_words::Space;
 
-/// Appends the sessions one after another, numbered from 1.
-#[tactic(auto, unfolding(crate::specs::Texts::sessions_text))]
-pub fn push_sessions(out: &mut Vec<u8>, space: &Space, told: &[Replies]) -> Result<(), NoMemory>
-    requires few { length told.now < 2 ^ 32 }
-    requires printable { (k : ℕ) → k < length told.now →
-        All (IsPrintable space.now) (slice_index_or told.now k []) }
-    ensures { OnOk result (out.new.items ≡ out.old.items ++ sessions_text space.now told.now) }
+/// Prints the sessions one after another, numbered from 1.
+pub(crate) fn print_sessions<W: Sink>(
+    sink: &mut W,
+    page: &mut Page,
+    space: &Space,
+    told: &[Replies],
+) -> Result<(), WriteFault>
+    requires { ArePrintable space.now told.now }
+    ensures { Prints (W.held sink.old) (W.held sink.new) (W.faults sink.old) (W.faults sink.new) page.old page.new
+        (sessions_text space.now told.now) result }
 {
     'sessions: for place in 0..told.len() {
-        push_session(out, space, place as u32 + 1, told[place].as_slice())?;
+        print_session(sink, page, space, place as u32 + 1, told[place].as_slice())?;
     }
     Ok(())
 }
 
-/// Appends a session: `session S` with its number, and a line for each reply.
-#[tactic(auto, unfolding(crate::specs::Texts::session_text))]
-pub fn push_session(
-    out: &mut Vec<u8>,
+/// Prints a session: `session S` with its number, and a line for each reply.
+pub(crate) fn print_session<W: Sink>(
+    sink: &mut W,
+    page: &mut Page,
     space: &Space,
     number: u32,
     replies: &[Reply],
-) -> Result<(), NoMemory>
+) -> Result<(), WriteFault>
     requires { All (IsPrintable space.now) replies.now }
-    ensures { OnOk result (out.new.items ≡ out.old.items
-        ++ session_text space.now number replies.now) }
+    ensures { Prints (W.held sink.old) (W.held sink.new) (W.faults sink.old) (W.faults sink.new) page.old page.new
+        (session_text space.now number replies.now) result }
 {
-    push_line(out, &session_head(number))?;
-    push_replies(out, space, replies)
+    print_line(sink, page, &keyed_line(b"session ", u64::from(number)))?;
+    print_replies(sink, page, space, replies)
 }
 
-#[tactic(auto, unfolding(crate::specs::Texts::session_head))]
-fn session_head(number: u32) -> Line
-    ensures { result ≡ session_head number }
-{
-    let mut line = Line::new();
-    line.text(b"session ");
-    line.number(i64::from(number));
-    line
-}
-
-/// Appends a line for each reply.
-fn push_replies(out: &mut Vec<u8>, space: &Space, replies: &[Reply]) -> Result<(), NoMemory>
+/// Prints a line for each reply.
+fn print_replies<W: Sink>(
+    sink: &mut W,
+    page: &mut Page,
+    space: &Space,
+    replies: &[Reply],
+) -> Result<(), WriteFault>
     requires { All (IsPrintable space.now) replies.now }
-    ensures { OnOk result (out.new.items ≡ out.old.items ++ reply_lines space.now replies.now) }
+    ensures { Prints (W.held sink.old) (W.held sink.new) (W.faults sink.old) (W.faults sink.new) page.old page.new
+        (reply_lines space.now replies.now) result }
 {
     'replies: for reply in replies {
-        push_line(out, &told(space, reply))?;
+        print_line(sink, page, &told(space, reply))?;
     }
     Ok(())
 }

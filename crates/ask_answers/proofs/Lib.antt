@@ -1,4 +1,5 @@
 pub mod WordBounds
 pub mod ShapeWeights
+pub mod AskedAnswers
 pub mod OneAnswer
 pub mod OverCodes

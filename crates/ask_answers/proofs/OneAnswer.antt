@@ -1,15 +1,18 @@
--- Lists of answers, and that there is one text.
-use Rattle.std.proofs.Common.{◌≡◌, ◌∙◌, sym, refl, ap, ap₂, ℕ, ◌+◌, ◌<◌, List, [], ◌∷◌, ◌++◌, length, take, get_or, slice_get, Some, append_assoc, arith}
-use Rattle.std.proofs.lemmas.List.{append-nil, take_more}
-use Rattle.std.proofs.lemmas.Option.{slice_get_within, get_or_from_slice_get}
+-- Two lists of answers to the same asks have one text.
+use Rattle.std.proofs.Common.{◌≡◌, ◌∙◌, sym, refl, ap, ap₂, ℕ, ◌<◌, List, [], ◌∷◌, ◌++◌, length, get_or, Some, arith}
 use Rattle.std.proofs.lemmas.Grind.{same_number_lists}
 use Rattle.std.proofs.lemmas.List.Kept.{AllPairs-from_increasing}
 use Rattle.tensor_words.proofs.Walks.{same_members}
+use Rattle.tableau_reading.specs.Shapes.{ShapeType, shape_weight}
 use Rattle.canonical_graph.specs.Graphs.{FinishedType}
-use Rattle.answer_text.specs.Asks.{demazure_text, reflection_text}
+use Rattle.crystal_subsets.specs.ProductTops.{tops_beside}
+use Rattle.answer_text.specs.Asks.{demazure_text, tops_text, reflection_text}
+use Rattle.answer_text.specs.Answers.{ask_text}
+use Rattle.answer_text.specs.declared.answers.AskAnswer.{AskAnswer}
+use Rattle.answer_text.specs.declared.answers.AskAnswer.TheVariants as answer
 use Rattle.job_text.specs.declared.commands.Ask.{Ask}
 use Rattle.job_text.specs.declared.commands.Ask.TheVariants.{Demazure, Tops, Reflect}
-use Rattle.ask_answers.specs.Answers.{IsSubset, IsImages, IsAskAnswer, AreAnswers, AnswersAreOne}
+use Rattle.ask_answers.specs.Answers.{IsSubset, IsImages, IsAskAnswer, AnswersAreOne}
 
 one_subset : (f : FinishedType) (b : ℕ) (indices ranks others : List ℕ) → IsSubset f b indices ranks → IsSubset f b indices others → ranks ≡ others
 one_subset f b indices ranks others p q =
@@ -22,29 +25,41 @@ one_list_of_images f i images others p q = same_number_lists images others (p.si
     let same : Some (get_or images rank 0) ≡ Some (get_or others rank 0) = sym (p.each rank below) ∙ q.each rank below in
     cc)
 
-one_answer : (f : FinishedType) (b : ℕ) (ask : Ask) (text other : List ℕ) → IsAskAnswer f b ask text → IsAskAnswer f b ask other → text ≡ other
-one_answer f b (Demazure indices) text other (ranks, is, shown) (others, like, told) =
-    shown ∙ ap (demazure_text f indices) (one_subset f b indices ranks others is like) ∙ sym told
-one_answer f b (Tops shape) text other shown told = shown ∙ sym told
-one_answer f b (Reflect i) text other (images, is, shown) (others, like, told) =
-    shown ∙ ap (reflection_text i) (one_list_of_images f i images others is like) ∙ sym told
+-- the text of a value that answers an ask
+demazure_told : (f : FinishedType) (b : ℕ) (indices : List ℕ) (a : AskAnswer) → IsAskAnswer f b (Demazure indices) a
+    → (ranks : List ℕ) × IsSubset f b indices ranks × (ask_text f a ≡ demazure_text f indices ranks)
+demazure_told f b indices (answer.Demazure said ranks) (same, is) = (ranks.items, is, ap (λ (l : List ℕ). demazure_text f l ranks.items) same)
+demazure_told f b indices (answer.Tops said tops) is = absurd is
+demazure_told f b indices (answer.Reflection said images) is = absurd is
+
+tops_told : (f : FinishedType) (b : ℕ) (shape : ShapeType) (a : AskAnswer) → IsAskAnswer f b (Tops shape) a
+    → ask_text f a ≡ tops_text f shape (tops_beside f (shape_weight shape))
+tops_told f b shape (answer.Demazure said ranks) is = absurd is
+tops_told f b shape (answer.Tops said tops) (same, are) = ap₂ (tops_text f) same are
+tops_told f b shape (answer.Reflection said images) is = absurd is
+
+images_told : (f : FinishedType) (b i : ℕ) (a : AskAnswer) → IsAskAnswer f b (Reflect i) a
+    → (images : List ℕ) × IsImages f i images × (ask_text f a ≡ reflection_text i images)
+images_told f b i (answer.Demazure said ranks) is = absurd is
+images_told f b i (answer.Tops said tops) is = absurd is
+images_told f b i (answer.Reflection said images) (same, are) = (images.items, are, ap (λ n. reflection_text n images.items) same)
+
+one_answer : (f : FinishedType) (b : ℕ) (ask : Ask) (a other : AskAnswer) → IsAskAnswer f b ask a → IsAskAnswer f b ask other → ask_text f a ≡ ask_text f other
+one_answer f b (Demazure indices) a other is like =
+    let p = demazure_told f b indices a is in
+    let q = demazure_told f b indices other like in
+    p.2 ∙ ap (demazure_text f indices) (one_subset f b indices p.0 q.0 p.1 q.1) ∙ sym q.2
+one_answer f b (Tops shape) a other is like = tops_told f b shape a is ∙ sym (tops_told f b shape other like)
+one_answer f b (Reflect i) a other is like =
+    let p = images_told f b i a is in
+    let q = images_told f b i other like in
+    p.2 ∙ ap (reflection_text i) (one_list_of_images f i p.0 q.0 p.1 q.1) ∙ sym q.2
 
 pub answers_one : AnswersAreOne
-answers_one f b [] text other shown told = shown ∙ sym told
-answers_one f b (ask ∷ asks) text other (first, rest, is, are, shown) (head, tail, like, alike, told) =
-    shown ∙ ap₂ (λ xs ys. xs ++ ys) (one_answer f b ask first head is like) (answers_one f b asks rest tail are alike) ∙ sym told
-
--- one more answer
-pub answers_more : (f : FinishedType) (b : ℕ) (asks : List Ask) (ask : Ask) (text more : List ℕ) → AreAnswers f b asks text → IsAskAnswer f b ask more
-    → AreAnswers f b (asks ++ ask ∷ []) (text ++ more)
-answers_more f b [] ask text more none is = (more, [], is, refl, ap (λ xs. xs ++ more) none ∙ sym (append-nil more))
-answers_more f b (first ∷ asks) ask text more (head, tail, like, alike, told) is =
-    (head, tail ++ more, like, answers_more f b asks ask tail more alike is, ap (λ xs. xs ++ more) told ∙ append_assoc head tail more)
-
--- the answers to the asks before a place, with that of the ask there
-pub answers_to : (f : FinishedType) (b : ℕ) (asks : List Ask) (place : ℕ) (ask : Ask) (text more : List ℕ) → slice_get asks place ≡ Some ask
-    → AreAnswers f b (take place asks) text → IsAskAnswer f b ask more → AreAnswers f b (take (place + 1) asks) (text ++ more)
-answers_to f b asks place ask text more there are is =
-    let next : take (place + 1) asks ≡ take place asks ++ ask ∷ [] =
-    take_more asks place ask (slice_get_within asks place ask there) ∙ ap (λ a. take place asks ++ a ∷ []) (get_or_from_slice_get asks place ask ask there) in
-    rw next (answers_more f b (take place asks) ask text more are is)
+answers_one f b [] [] [] are alike = refl
+answers_one f b [] [] (other ∷ others) are alike = absurd alike
+answers_one f b [] (a ∷ answers) others are alike = absurd are
+answers_one f b (ask ∷ asks) [] others are alike = absurd are
+answers_one f b (ask ∷ asks) (a ∷ answers) [] are alike = absurd alike
+answers_one f b (ask ∷ asks) (a ∷ answers) (other ∷ others) (is, are) (like, alike) =
+    ap₂ (λ xs ys. xs ++ ys) (one_answer f b ask a other is like) (answers_one f b asks answers others are alike)

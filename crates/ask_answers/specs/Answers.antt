@@ -1,12 +1,15 @@
--- The answers to the asks of a job, as text.
-use Rattle.std.specs.Prelude.{ℕ, ◌<◌, ◌≡◌, ◌↔◌, List, [], ◌∷◌, ◌++◌, length, slice_index, Some, Contains}
+-- The answers to the asks of a job, as values.
+use Rattle.std.specs.Prelude.{ℕ, ◌<◌, ◌≡◌, ◌↔◌, List, length, slice_index, Some, Contains}
+use Rattle.std.specs.List.{AllZip}
 use Rattle.std.specs.List.Sorted.{IsStrictlyIncreasing}
 use Rattle.tableau_reading.specs.Shapes.{shape_weight}
 use Rattle.canonical_graph.specs.Graphs.{FinishedType, code_at}
 use Rattle.crystal_subsets.specs.DemazureSubsets.{Demazure as DemazureSubset}
 use Rattle.crystal_subsets.specs.ProductTops.{tops_beside}
 use Rattle.crystal_characters.specs.Reflections.{reflection_rank}
-use Rattle.answer_text.specs.Asks.{demazure_text, tops_text, reflection_text}
+use Rattle.answer_text.specs.Answers.{asks_text}
+use Rattle.answer_text.specs.declared.answers.AskAnswer.{AskAnswer}
+use Rattle.answer_text.specs.declared.answers.AskAnswer.TheVariants as answer
 use Rattle.job_text.specs.declared.commands.Ask.{Ask}
 use Rattle.job_text.specs.declared.commands.Ask.TheVariants.{Demazure, Tops, Reflect}
 
@@ -20,21 +23,21 @@ pub record IsImages (f : FinishedType) (i : ℕ) (images : List ℕ) : Type 0 wh
   pub size : length images ≡ length f.codes
   pub each : (rank : ℕ) → rank < length f.codes → reflection_rank f i rank ≡ Some (slice_index images rank)
 
--- the text answers the ask about the graph, whose job has its first start at the code b
-abbrev pub IsAskAnswer : FinishedType → ℕ → Ask → List ℕ → Type 0
-IsAskAnswer f b (Demazure indices) text = (ranks : List ℕ) × IsSubset f b indices ranks × (text ≡ demazure_text f indices ranks)
-IsAskAnswer f b (Tops shape) text = text ≡ tops_text f shape (tops_beside f (shape_weight shape))
-IsAskAnswer f b (Reflect i) text = (images : List ℕ) × IsImages f i images × (text ≡ reflection_text i images)
+-- the value answers the ask about the graph, whose job has its first start at the code b
+abbrev pub IsAskAnswer : FinishedType → ℕ → Ask → AskAnswer → Type 0
+IsAskAnswer f b (Demazure indices) (answer.Demazure said ranks) = (said.items ≡ indices) × IsSubset f b indices ranks.items
+IsAskAnswer f b (Tops shape) (answer.Tops said tops) = (said ≡ shape) × (tops.items ≡ tops_beside f (shape_weight shape))
+IsAskAnswer f b (Reflect i) (answer.Reflection said images) = (said ≡ i) × IsImages f i images.items
+IsAskAnswer f b ask other = ⊥
 
--- the text answers the asks one after another, in their order
-abbrev pub AreAnswers : FinishedType → ℕ → List Ask → List ℕ → Type 0
-AreAnswers f b [] text = text ≡ []
-AreAnswers f b (ask ∷ asks) text =
-    (first : List ℕ) × (rest : List ℕ) × IsAskAnswer f b ask first × AreAnswers f b asks rest × (text ≡ first ++ rest)
+-- the values answer the asks, one for each, in their order
+abbrev pub AreAnswers : FinishedType → ℕ → List Ask → List AskAnswer → Type 0
+AreAnswers f b asks answers = AllZip (IsAskAnswer f b) asks answers
 
 -- laws
 
--- the text is determined by the graph, the first start and the asks
+-- the text of the answers is determined by the graph, the first start and the asks
 abbrev pub AnswersAreOne : Type 0
 AnswersAreOne =
-    (f : FinishedType) (b : ℕ) (asks : List Ask) (text other : List ℕ) → AreAnswers f b asks text → AreAnswers f b asks other → text ≡ other
+    (f : FinishedType) (b : ℕ) (asks : List Ask) (answers others : List AskAnswer) → AreAnswers f b asks answers → AreAnswers f b asks others
+    → asks_text f answers ≡ asks_text f others

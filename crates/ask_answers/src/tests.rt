@@ -1,11 +1,12 @@
-//! Whole texts, worked out by hand.
+//! Answers worked out by hand.
 ghost use Rattle.std.specs.Prelude.{IfSome, Contains};
 
-use crate::{answers_are_one, push_asks};
+use crate::{answers, answers_are_one};
+use answer_text::AskAnswer;
 use canonical_graph::{Finished, grow_plain};
+use crystal_cartan::Weight;
 use job_text::read_job;
 use std::alloc::Global;
-use std::test::Fail;
 
 /// The most bytes of a job.
 const MOST_BYTES: usize = 1_048_576;
@@ -19,7 +20,7 @@ fn vertex_code(finished: &Finished, code: u64) -> Option<u64>
 }
 
 /// The answers to the asks of a job, `None` where it is refused or memory is wanted.
-fn answers(alloc: Global, text: &[u8]) -> Option<Vec<u8>> {
+fn answers_of(alloc: Global, text: &[u8]) -> Option<Vec<AskAnswer>> {
     if text.len() > MOST_BYTES {
         return None;
     }
@@ -30,48 +31,90 @@ fn answers(alloc: Global, text: &[u8]) -> Option<Vec<u8>> {
         return None;
     };
     let start = vertex_code(&finished, *job.starts.as_slice().first()?)?;
-    let mut out = Vec::new(alloc);
-    match push_asks(alloc, &mut out, &finished, start, &job.asks) {
-        Ok(()) => Some(out),
-        Err(_) => None,
+    answers(alloc, &finished, start, &job.asks).ok()
+}
+
+/// The answer at a place to the asks of a job without its header, `None` where there is none.
+fn answer_at(alloc: Global, job: &str, place: usize) -> Option<AskAnswer> {
+    let job = format!(in alloc; "crystal-job 2\n{job}").ok()?;
+    answers_of(alloc, job.as_bytes())?.into_iter().nth(place)
+}
+
+/// Whether the answer at a place is the subset of these indices with these members.
+fn is_subset(alloc: Global, job: &str, place: usize, asked: &[u8], members: &[u32]) -> bool {
+    match &answer_at(alloc, job, place) {
+        Some(AskAnswer::Demazure { indices, ranks }) => {
+            indices.as_slice() == asked && ranks.as_slice() == members
+        }
+        _ => false,
     }
 }
 
-/// Jobs, and the answers to their asks.
-const ANSWERS: [(&str, &str); 6] = [
-    // Pieri's rule in Kashiwara's order: the top word of the shape stands first.
-    (
-        "type A 2\norder kashiwara\nshape 2 1\ntops 1\n",
-        "tops 1 | 3\n1 1 1 2 | 3 1 0\n1 2 1 2 | 2 2 0\n1 2 1 3 | 2 1 1\n",
-    ),
-    (
-        "type A 2\nshape 1\ndemazure 2 1\ndemazure 1 2\nreflect 1\n",
-        "demazure 2 1 | 3\n0 | 1\n1 | 2\n2 | 3\ndemazure 1 2 | 2\n0 | 1\n1 | 2\nreflect 1 | 3\n0 | 1\n1 | 0\n2 | 2\n",
-    ),
-    // The first start is the second vertex.
-    (
-        "type A 2\nspace v\nstart 2\ndemazure 1\ndemazure 2\n",
-        "demazure 1 | 1\n1 | 2\ndemazure 2 | 2\n1 | 2\n2 | 3\n",
-    ),
-    (
-        "type C 2\nshape 1\ntops 1\n",
-        "tops 1 | 3\n1 1 | 2 0\n2 1 | 1 1\n-1 1 | 0 0\n",
-    ),
-    // The product of the spin representation and the vector representation: of dimensions 16 and 4.
-    (
-        "type B 2\nspace s\nstart ++\ntops 1\nreflect 2\n",
-        "tops 1 | 2\n++ 1 | 3/2 1/2\n-+ 1 | 1/2 1/2\nreflect 2 | 4\n0 | 1\n1 | 0\n2 | 3\n3 | 2\n",
-    ),
-    ("type C 2\nshape 1\n", ""),
-];
+/// Whether the answer at a place has these images under the reflection at this index.
+fn has_images(alloc: Global, job: &str, place: usize, at: u8, ranks: &[u32]) -> bool {
+    match &answer_at(alloc, job, place) {
+        Some(AskAnswer::Reflection { index, images }) => {
+            *index == at && images.as_slice() == ranks
+        }
+        _ => false,
+    }
+}
+
+/// Whether the first answer is tops of these ranks, each with the first two coordinates of its weight, doubled.
+fn has_tops(alloc: Global, job: &str, expected: &[(u32, i32, i32)]) -> bool {
+    match &answer_at(alloc, job, 0) {
+        Some(AskAnswer::Tops { shape: _, tops }) => are_tops(tops.as_slice(), expected),
+        _ => false,
+    }
+}
+
+fn are_tops(tops: &[(u32, Weight)], expected: &[(u32, i32, i32)]) -> bool {
+    if tops.len() != expected.len() {
+        return false;
+    }
+    for k in 0..tops.len() {
+        let (rank, weight) = &tops[k];
+        let (place, first, second) = expected[k];
+        if *rank != place || !begins(weight, first, second) {
+            return false;
+        }
+    }
+    true
+}
+
+/// Whether a weight begins with these two coordinates, doubled.
+fn begins(weight: &Weight, first: i32, second: i32) -> bool {
+    weight.coordinates() >= 2 && weight.doubled_at(1) == first && weight.doubled_at(2) == second
+}
+
+/// The letters of type A have the ranks 0 to 2.
+const A2: &str = "type A 2\nshape 1\ndemazure 2 1\ndemazure 1 2\nreflect 1\n";
+
+/// The first start is the second vertex.
+const A2_FROM_2: &str = "type A 2\nspace v\nstart 2\ndemazure 1\ndemazure 2\n";
+
+/// The words of the vertices are 112, 113, 212, 213 and on.
+const A2_KASHIWARA: &str = "type A 2\norder kashiwara\nshape 2 1\ntops 1\n";
+
+/// The letters 1, 2, -2 and -1 have the ranks 0 to 3.
+const C2: &str = "type C 2\nshape 1\ntops 1\n";
+
+/// The product of the spin representation and the vector representation: of dimensions 16 and 4.
+const B2_SPIN: &str = "type B 2\nspace s\nstart ++\ntops 1\nreflect 2\n";
 
 #[test]
-fn whole_texts(rt: HostRuntime) -> Result<(), Fail> {
+fn worked_answers(rt: HostRuntime) {
+    let alloc = rt.alloc();
     answers_are_one();
-    for (job, text) in ANSWERS {
-        let job = format!(in rt.alloc(); "crystal-job 2\n{job}")?;
-        let told = answers(rt.alloc(), job.as_bytes()).ok_or("a job that is taken")?;
-        assert_eq!(rt; told.as_slice(), text.as_bytes());
-    }
-    Ok(())
+    assert!(rt; is_subset(alloc, A2, 0, &[2, 1], &[0, 1, 2]));
+    assert!(rt; is_subset(alloc, A2, 1, &[1, 2], &[0, 1]));
+    assert!(rt; is_subset(alloc, A2_FROM_2, 0, &[1], &[1]));
+    assert!(rt; is_subset(alloc, A2_FROM_2, 1, &[2], &[1, 2]));
+    assert!(rt; has_images(alloc, A2, 2, 1, &[1, 0, 2]));
+    assert!(rt; has_images(alloc, B2_SPIN, 1, 2, &[1, 0, 3, 2]));
+    // Pieri's rule: a box in the first row, in the second and in the third.
+    assert!(rt; has_tops(alloc, A2_KASHIWARA, &[(0, 6, 2), (2, 4, 4), (3, 4, 2)]));
+    assert!(rt; has_tops(alloc, C2, &[(0, 4, 0), (1, 2, 2), (3, 0, 0)]));
+    assert!(rt; has_tops(alloc, B2_SPIN, &[(0, 3, 1), (2, 1, 1)]));
+    assert!(rt; answer_at(alloc, A2, 3).is_none());
 }

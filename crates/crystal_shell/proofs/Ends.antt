@@ -1,7 +1,5 @@
 -- How a run comes to its end.
-use Rattle.std.proofs.Common.{◌≡◌, ◌+◌, ◌≤◌, ℕ, true, false, List, [], Option, Some, None, inl, inr, refl, sym, ap, subst, ◌∙◌, true≢false, arith}
-use Rattle.std.specs.Io.KnownBytes.{Keeps}
-use Rattle.crystal_streams.specs.Faults.{Rose}
+use Rattle.std.proofs.Common.{◌≡◌, ◌+◌, ◌≤◌, ℕ, false, List, [], Option, Some, None, inl, inr, refl, sym, ap, subst, ◌∙◌, true≢false, arith}
 use Rattle.crystal_streams.specs.Reads.{TakesAtMost}
 use Rattle.graph_history.specs.declared.event.Event.{Event}
 use Rattle.graph_runs.specs.declared.run.Held.{Held}
@@ -10,18 +8,15 @@ use Rattle.tableau_reading.specs.Shapes.{ShapeType}
 use Rattle.answer_text.specs.Texts.{words_refusal}
 use Rattle.crystal_shell.specs.Statistics.{Reporter, names_of}
 use Rattle.crystal_shell.specs.Heard.{asks_for_job, heard_in}
-use Rattle.crystal_shell.specs.Inputs.{IsInput, ReadsJob, job_limit, judged_input}
-use Rattle.crystal_shell.specs.Answers.{Calls, Compares, Counts, Grows, call_census, call_grow, call_match, call_refused, status_number}
+use Rattle.crystal_shell.specs.Inputs.{IsInput, job_limit, judged_input}
+use Rattle.crystal_shell.specs.Answers.{Calls, Compares, Counts, Grows, Samples, call_census, call_grow, call_match, call_refused, call_sample, status_number}
 use Rattle.crystal_shell.specs.Runs.{Called, HasRead, IsRun, IsWritten}
-use Rattle.crystal_shell.specs.Stops.{stop_number}
 use Rattle.crystal_shell.specs.declared.hearing.Heard.{Heard}
-use Rattle.crystal_shell.specs.declared.hearing.Heard.TheVariants.{Census, Grow, Match, Refused}
+use Rattle.crystal_shell.specs.declared.hearing.Heard.TheVariants.{Census, Grow, Match, Refused, Sample}
 use Rattle.crystal_shell.specs.declared.inputs.Input.{Input}
 use Rattle.crystal_shell.specs.declared.outcomes.Outcome.{Outcome}
 use Rattle.crystal_shell.specs.declared.outcomes.Status.{Status}
 use Rattle.crystal_shell.specs.declared.outcomes.Status.TheVariants.{Done, Full, JobRefused, WordsRefused}
-use Rattle.crystal_shell.specs.declared.outcomes.Stop.{Stop}
-use Rattle.crystal_shell.specs.declared.outcomes.Stop.TheVariants.{NoMemory, ReadFault}
 
 -- ---- what was called for
 
@@ -46,6 +41,13 @@ module _ (reporters : List Reporter) (words : List (List ℕ)) (left : Option (L
   called_grown growers places input s f k x this (xs, had, judged) grows =
       let base : Calls reporters xs (Grow growers places) s f k x = call_grow growers places s f k x (subst (λ (i : Input). Grows reporters places i s f k x) judged grows) in
       called s f k x xs had (subst (λ (h : Heard). Calls reporters xs h s f k x) (sym this) base)
+
+  pub called_sampled : (growers number : ℕ) (s : Status) (f : List Event) (k : Option Held) (x : List ℕ) → heard ≡ Sample growers number → Samples number s f k x
+      → Called reporters words left s f k x
+  called_sampled growers number s f k x this samples =
+      let some = some_input left in
+      let base : Calls reporters some.0 (Sample growers number) s f k x = call_sample growers number s f k x samples in
+      called s f k x some.0 some.1 (subst (λ (h : Heard). Calls reporters some.0 h s f k x) (sym this) base)
 
   pub called_counted : (shape : ShapeType) (s : Status) (f : List Event) (k : Option Held) (x : List ℕ) → heard ≡ Census shape → f ≡ [] → k ≡ None → Counts shape s x
       → Called reporters words left s f k x
@@ -82,29 +84,6 @@ module _ {S : Type 0} (left : S → Option (List ℕ)) (faults : S → ℕ) (rep
         later = rw same (omega arith);
       }
 
-  pub read_asked : asks_for_job heard ≡ true → (done → ReadsJob (left before) (left after)) → TakesAtMost (job_limit + 1) (left before) (left after)
-      → (failed → Rose (faults before) (faults after)) → faults before ≤ faults after → HasRead left faults reporters words before after done failed
-  read_asked asked whole most fault later =
-      let some : asks_for_job (heard_in words (names_of reporters)) ≡ true = ap asks_for_job (sym is) ∙ asked in
-      record {
-        alone = λ unasked. absurd (true≢false (sym some ∙ unasked));
-        whole = λ _ d. whole d;
-        most = most;
-        fault = λ f. (some, fault f);
-        later = later;
-      }
-
--- nothing was heard, and the source is as it was
-pub read_unheard : {S : Type 0} (left : S → Option (List ℕ)) (faults : S → ℕ) (reporters : List Reporter) (words : List (List ℕ)) (before after : S) (done failed : Type 0)
-    → after ≡ before → (done → ⊥) → (failed → ⊥) → HasRead left faults reporters words before after done failed
-read_unheard left faults reporters words before after done failed same undone never = record {
-  alone = λ _. same;
-  whole = λ _ d. absurd (undone d);
-  most = rw same (none_taken (job_limit + 1) (left before));
-  fault = λ f. absurd (never f);
-  later = rw same (omega arith);
-}
-
 -- ---- the end
 
 low : (s : Status) → status_number s ≤ 3
@@ -112,10 +91,6 @@ low Done = omega arith
 low WordsRefused = omega arith
 low JobRefused = omega arith
 low Full = omega arith
-
-keeps : (bytes : Option (List ℕ)) → Keeps bytes bytes
-keeps None = tt
-keeps (Some xs) = refl
 
 module _ {S K : Type 0} (left : S → Option (List ℕ)) (read_faults : S → ℕ) (kept : K → Option (List ℕ)) (write_faults : K → ℕ)
     (reporters : List Reporter) (words : List (List ℕ)) (source source' : S) (sink sink' : K) (outcome : Outcome) where
@@ -151,35 +126,3 @@ module _ {S K : Type 0} (left : S → Option (List ℕ)) (read_faults : S → �
         };
         later = later;
       }
-
-  pub run_stopped : (stop : Stop) (done failed : Type 0) → HasRead left read_faults reporters words source source' done failed → (stop ≡ ReadFault → failed)
-      → outcome.status ≡ stop_number stop → outcome.front ≡ [] → outcome.held ≡ None → sink' ≡ sink
-      → IsRun left read_faults kept write_faults reporters words source source' sink sink' outcome
-  run_stopped ReadFault done failed read fails status front held same = record {
-    told = λ three. absurd (omega (arith, three, status));
-    cut = λ five. absurd (omega (arith, five, status));
-    untold = λ _. (rw same (keeps (kept sink)), front, held);
-    statuses = omega (arith, status);
-    read = record {
-      alone = read.alone;
-      whole = λ asked nor. absurd (nor.0 status);
-      most = read.most;
-      fault = λ _. read.fault (fails refl);
-      later = read.later;
-    };
-    later = rw same (omega arith);
-  }
-  run_stopped NoMemory done failed read fails status front held same = record {
-    told = λ three. absurd (omega (arith, three, status));
-    cut = λ five. absurd (omega (arith, five, status));
-    untold = λ _. (rw same (keeps (kept sink)), front, held);
-    statuses = omega (arith, status);
-    read = record {
-      alone = read.alone;
-      whole = λ asked nor. absurd (nor.1 status);
-      most = read.most;
-      fault = λ four. absurd (omega (arith, four, status));
-      later = read.later;
-    };
-    later = rw same (omega arith);
-  }

@@ -1,5 +1,5 @@
 -- Graphs and replies of a run, as they are printed.
-use Rattle.std.proofs.Common.{◌≡◌, ℕ, ◌^◌, ◌<◌, ◌≤◌, List, [], ◌++◌, length, get_or, slice_index, slice_index_or, All, Contains, Some, None, refl, sym, ap, subst, arith}
+use Rattle.std.proofs.Common.{◌≡◌, ℕ, ◌<◌, ◌≤◌, List, [], ◌++◌, length, get_or, slice_index, slice_index_or, All, Contains, Some, None, refl, sym, subst, arith}
 use Rattle.std.specs.List.{flat_map}
 use Rattle.std.proofs.lemmas.List.Elements.{Contains-append_left, Contains-get_or}
 use Rattle.tensor_words.specs.Spaces.{SpaceType}
@@ -13,6 +13,7 @@ use Rattle.job_text.specs.Jobs.{IsAsk, IsJob, added_codes}
 use Rattle.job_text.proofs.Ascending.{ascending_has}
 use Rattle.session_desk.specs.declared.reply.Reply.{Reply}
 use Rattle.session_desk.specs.Texts.{IsPrintable}
+use Rattle.answer_text.specs.Answers.{ArePrintable}
 use Rattle.graph_runs.specs.Runs.{Ends, closed, spent}
 
 -- the graph of a world: its component list, whose words fit the cells
@@ -46,16 +47,15 @@ start_listed j codes x is list first =
       leads = refl;
     })
 
--- the replies of a job can be printed, by another name too
-pub told_printable : (s space : SpaceType) (n : ℕ) (told said : List (List Reply)) → said ≡ told → length told ≡ n → s ≡ space
-    → ((k : ℕ) → k < n → All (IsPrintable space) (slice_index_or told k [])) → (k : ℕ) → k < length said → All (IsPrintable s) (slice_index_or said k [])
-told_printable s space n told said same count here printable k below =
-    let within : k < n = omega (arith, below, ap length same, count) in
-    subst (λ (t : SpaceType). All (IsPrintable t) (slice_index_or said k [])) (sym here)
-    (subst (λ (l : List (List Reply)). All (IsPrintable space) (slice_index_or l k [])) (sym same) (printable k within))
-
-pub told_few : (n : ℕ) (told said : List (List Reply)) → said ≡ told → length told ≡ n → n ≤ 16 → length said < 2 ^ 32
-told_few n told said same count few = omega (arith, ap length same, count, few)
+-- the replies of a job can be printed
+pub told_are_printable : (s space : SpaceType) (n : ℕ) (told : List (List Reply)) → length told ≡ n → n ≤ 16 → s ≡ space
+    → ((k : ℕ) → k < n → All (IsPrintable space) (slice_index_or told k [])) → ArePrintable s told
+told_are_printable s space n told count few here printable = record {
+  few = omega (arith, count, few);
+  printable = λ k below.
+      let within : k < n = omega (arith, below, count) in
+      subst (λ (t : SpaceType). All (IsPrintable t) (slice_index_or told k [])) (sym here) (printable k within);
+}
 
 pub asks_of : (s space : SpaceType) (asks : List Ask) → s ≡ space → All (IsAsk space) asks → All (IsAsk s) asks
 asks_of s space asks here all = subst (λ (t : SpaceType). All (IsAsk t) asks) (sym here) all

@@ -1,5 +1,5 @@
 -- What an input says.
-use Rattle.std.proofs.Common.{◌≡◌, ◌∙◌, ◌<◌, ◌≤◌, ◌+◌, ℕ, zero, suc, Bool, true, false, cond, nat_lt, refl, sym, ap, List, [], ◌∷◌, length, Option, Some, None, IfSome, Err, arith}
+use Rattle.std.proofs.Common.{◌≡◌, ◌∙◌, ◌<◌, ◌+◌, ℕ, zero, suc, Bool, true, cond, nat_lt, refl, sym, ap, List, [], ◌∷◌, length, Option, Some, None, IfSome, Err, arith}
 use Rattle.std.proofs.lemmas.Bool.Decides.{nat_tests}
 use Rattle.job_text.specs.Judge.{judge}
 use Rattle.job_text.specs.Outcomes.{GivesAtLine}
@@ -7,17 +7,10 @@ use Rattle.job_text.specs.declared.faults.JobFault.TheVariants.{At}
 use Rattle.job_text.specs.declared.faults.JobWhy.{JobWhy}
 use Rattle.job_text.specs.Faults.{why_number}
 use Rattle.crystal_shell.specs.Inputs.{IsInput, by_number, job_limit, judged_input}
-use Rattle.crystal_shell.specs.declared.inputs.Input.{Input}
 use Rattle.crystal_shell.specs.declared.inputs.Input.TheVariants.{Refused}
 
 below : (n m : ℕ) → n < m → nat_lt n m ≡ true
 below n m lt = grind (arith, nat_tests)
-
-above : (n m : ℕ) → m ≤ n → nat_lt n m ≡ false
-above n m le = grind (arith, nat_tests)
-
-pub short_judged : (input : List ℕ) → length input ≤ job_limit → judged_input input ≡ by_number (judge input)
-short_judged input short = ap (λ (b : Bool). cond b (Refused 0 14) (by_number (judge input))) (above job_limit (length input) short)
 
 long_judged : (input : List ℕ) → job_limit < length input → Refused 0 14 ≡ judged_input input
 long_judged input long = sym (ap (λ (b : Bool). cond b (Refused 0 14) (by_number (judge input))) (below job_limit (length input) long))
@@ -31,11 +24,6 @@ long_input None long =
     let some = some_long (job_limit + 1) in
     (some.0, tt, long_judged some.0 (omega (arith, some.1)))
 long_input (Some left) long = (left, refl, long_judged left long)
-
-pub read_input_is : (left : Option (List ℕ)) (bytes : List ℕ) (found : Input) → IfSome left (λ l. bytes ≡ l) → found ≡ judged_input bytes
-    → (input : List ℕ) × IsInput left input × (found ≡ judged_input input)
-read_input_is None bytes found read is = (bytes, tt, is)
-read_input_is (Some left) bytes found read is = (bytes, sym read, is)
 
 pub fault_judged : (input : List ℕ) (line number : ℕ) (why : JobWhy) → number ≡ why_number why
     → GivesAtLine (Err (At line why)) (judge input) → Refused line number ≡ by_number (judge input)

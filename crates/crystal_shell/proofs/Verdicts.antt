@@ -1,5 +1,5 @@
 -- A census and a verdict on two components are determined.
-use Rattle.std.proofs.Common.{arith, ◌≡◌, refl, sym, ap, ap₂, ◌∙◌, ℕ, ◌≤◌, Bool, true, false, ◌||◌, ◌&&◌, ◌==◌, nat_lt, List, [], ◌∷◌, length, map, IsTrue, eq-eqb}
+use Rattle.std.proofs.Common.{arith, ◌≡◌, refl, sym, ap, ap₂, ◌∙◌, ℕ, ◌≤◌, Bool, true, false, ◌||◌, ◌&&◌, ◌==◌, nat_lt, List, [], ◌∷◌, length, map, IsTrue, Some, eq-eqb}
 use Rattle.std.proofs.lemmas.Bool.{ltb-false}
 use Rattle.std.proofs.lemmas.List.{length-map}
 use Rattle.std.proofs.lemmas.List.Kept.{AllPairs-from_increasing}
@@ -12,7 +12,11 @@ use Rattle.tableau_census.specs.Outcomes.{IsListed, IsTooLarge}
 use Rattle.tableau_census.proofs.Theorem.{census_is_unique}
 use Rattle.crystal_cartan.specs.declared.types.Arrow.{Arrow}
 use Rattle.crystal_match.specs.Listings.{firsts}
-use Rattle.crystal_match.specs.Matching.{AreSame}
+use Rattle.crystal_match.specs.Matching.{AreSame, IsVerdict}
+use Rattle.crystal_match.specs.declared.comparing.Verdict.{Verdict}
+use Rattle.crystal_match.specs.declared.comparing.Verdict.TheVariants.{Same, Differs}
+use Rattle.answer_text.specs.Answers.{verdict_line}
+use Rattle.answer_text.specs.Modes.{differs_line, same_line}
 use Rattle.crystal_match.specs.Telling.{IsFirstTelling, PointedType}
 use Rattle.signature_rule.specs.ArrowOrder.{arrow_place}
 
@@ -24,14 +28,14 @@ not_both shape limit xs p q =
     let same : xs ≡ q.codes = census_is_unique shape xs q.codes p.census q.census in
     omega (arith, p.few, q.many, ap length same)
 
-pub pairs_as_many : (m : PointedType) (xs ys : List (ℕ × ℕ)) → AreSame m xs → AreSame m ys → length xs ≡ length ys
+pairs_as_many : (m : PointedType) (xs ys : List (ℕ × ℕ)) → AreSame m xs → AreSame m ys → length xs ≡ length ys
 pairs_as_many m xs ys p q =
     let both : firsts xs ≡ firsts ys =
     same_members (firsts xs) (firsts ys) (AllPairs-from_increasing (firsts xs) p.matching.ascending) (AllPairs-from_increasing (firsts ys) q.matching.ascending)
     (λ c within. (q.matching.first c).1 ((p.matching.first c).0 within)) (λ c within. (p.matching.first c).1 ((q.matching.first c).0 within)) in
     sym (length-map xs (λ x. x.0)) ∙ ap length both ∙ length-map ys (λ x. x.0)
 
-pub same_told : (m : PointedType) (pairs : List (ℕ × ℕ)) (walk : List Arrow) → AreSame m pairs → IsFirstTelling m walk → ⊥
+same_told : (m : PointedType) (pairs : List (ℕ × ℕ)) (walk : List Arrow) → AreSame m pairs → IsFirstTelling m walk → ⊥
 same_told m pairs walk same first = same.untold walk first.tells
 
 -- ---- the first walk
@@ -92,7 +96,15 @@ neither_before rank m (a ∷ xs) (b ∷ ys) at many p q never neither =
     rank_high : (x : Arrow) → IsArrow m.space x → x.index ≤ rank
     rank_high x is = omega (arith, is.index.high, at)
 
-pub walk_unique : (m : PointedType) (xs ys : List Arrow) → IsFirstTelling m xs → IsFirstTelling m ys → xs ≡ ys
+walk_unique : (m : PointedType) (xs ys : List Arrow) → IsFirstTelling m xs → IsFirstTelling m ys → xs ≡ ys
 walk_unique m xs ys p q =
     let many : length xs ≡ length ys = omega (arith, p.shortest ys q.tells, q.shortest xs p.tells) in
     neither_before m.space.cartan.rank m xs ys refl many p.tells.arrows q.tells.arrows (q.least xs p.tells many) (p.least ys q.tells (sym many))
+
+-- ---- verdicts
+
+pub verdict_one : (m : PointedType) (v w : Verdict) → IsVerdict m v → IsVerdict m w → verdict_line (Some v) ≡ verdict_line (Some w)
+verdict_one m (Same xs) (Same ys) p q = ap same_line (pairs_as_many m xs ys p q)
+verdict_one m (Same xs) (Differs walk) p q = absurd (same_told m xs walk p q)
+verdict_one m (Differs walk) (Same ys) p q = absurd (same_told m ys walk q p)
+verdict_one m (Differs xs) (Differs ys) p q = ap differs_line (walk_unique m xs ys p q)

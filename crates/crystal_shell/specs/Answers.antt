@@ -1,24 +1,25 @@
 -- What the command words and the input call for.
-use Rattle.std.specs.Prelude.{ℕ, ◌<◌, ◌≤◌, List, [], ◌++◌, length, slice_index, Option, Some, None}
+use Rattle.std.specs.Prelude.{ℕ, ◌≡◌, ◌<◌, ◌≤◌, List, [], length, slice_index, Option, Some, None, Ok}
 use Rattle.crystal_cartan.specs.Types.{CartanType}
-use Rattle.tensor_words.specs.Spaces.{SpaceType}
-use Rattle.tableau_reading.specs.Shapes.{ShapeType, shape_space}
+use Rattle.tableau_reading.specs.Shapes.{ShapeType}
 use Rattle.canonical_graph.specs.Graphs.{FinishedType}
 use Rattle.graph_history.specs.declared.event.Event.{Event}
+use Rattle.job_text.specs.Judge.{judge}
+use Rattle.job_text.specs.Samples.{sample}
 use Rattle.job_text.specs.declared.jobs.Job.{Job}
 use Rattle.session_desk.specs.declared.reply.Reply.{Reply}
 use Rattle.crystal_characters.specs.Items.{items_of}
 use Rattle.ask_answers.specs.Answers.{AreAnswers}
 use Rattle.tableau_census.specs.Outcomes.{IsListed, IsTooLarge}
-use Rattle.crystal_match.specs.Matching.{AreSame, PairsOutnumber}
+use Rattle.crystal_match.specs.Matching.{IsVerdict, PairsOutnumber}
+use Rattle.crystal_match.specs.declared.comparing.Verdict.{Verdict}
 use Rattle.crystal_match.specs.Relabelling.{RelabelType, kept, starred}
-use Rattle.crystal_match.specs.Telling.{PointedType, IsFirstTelling, pointed}
+use Rattle.crystal_match.specs.Telling.{PointedType, pointed}
 use Rattle.command_words.specs.declared.settings.Relabelling.{Relabelling}
 use Rattle.command_words.specs.declared.settings.Relabelling.TheVariants as relabelling
-use Rattle.crystal_cartan.specs.declared.types.Arrow.{Arrow}
-use Rattle.crystal_streams.specs.Lines.{ended}
-use Rattle.answer_text.specs.Texts.{head_line, sessions_text, graph_part, full_line, end_line, words_refusal, job_refusal}
-use Rattle.answer_text.specs.Modes.{census_line, tableaux_text, same_line, differs_line}
+use Rattle.answer_text.specs.Texts.{graph_head, full_line, words_refusal, job_refusal}
+use Rattle.answer_text.specs.Answers.{asks_text, whole_text, full_text, sample_answer, census_text, full_census_text, match_text, verdict_line}
+use Rattle.answer_text.specs.declared.answers.AskAnswer.{AskAnswer}
 use Rattle.crystal_shell.specs.Statistics.{Reporter, statistics_text}
 use Rattle.crystal_shell.specs.Inputs.{judged_input}
 use Rattle.graph_runs.specs.Runs.{Ends, Holds, IsHistory}
@@ -39,44 +40,47 @@ status_number Full = 3
 
 -- ---- grow
 
--- the text of a job with these replies whose graph is finished, from the parts of the statistics and the answers to the
--- asks
-abbrev pub whole_text : FinishedType → List (List Reply) → List ℕ → List ℕ → List ℕ
-whole_text f told parts answers =
-    ended (head_line f.space.cartan) ++ sessions_text f.space told ++ graph_part f ++ parts ++ answers ++ ended end_line
-
--- the same where more words are reached than there are cells
-abbrev pub full_text : SpaceType → List (List Reply) → List ℕ
-full_text s told = ended (head_line s.cartan) ++ sessions_text s told ++ ended full_line ++ ended end_line
+-- a run of a job: this is a history of it in which its sessions were told this, it ended in this graph, or in none where some
+-- word found no cell, and it is that of the held seat
+pub record IsRunOf (job : Job) (graph : Option FinishedType) (front : List Event) (held : Held) (told : List (List Reply)) : Type 0 where
+  pub history : IsHistory job.world job.starts job.scripts front told
+  pub ends : Ends job.world front graph
+  pub holds : Holds job.world held.graph held.seat front
 
 -- the status, the history, the graph with its one seat, and the text that an input calls for, where the statistics at
 -- these places are chosen
 pub data Grows (reporters : List Reporter) (places : List ℕ) : Input → Status → List Event → Option Held → List ℕ → Type 0 where
   -- a refused job is answered by its line and fault alone
   grow_refused : (line fault : ℕ) → Grows reporters places (Refused line fault) JobRefused [] None (job_refusal line fault)
-  -- a job whose graph is finished: there is one history of it, which ended closed and is that of the held seat; the text has
-  -- its replies, the graph of its vertices, the statistics and the answers to the asks
-  grow_whole : (job : Job) (f : FinishedType) (front : List Event) (held : Held) (told : List (List Reply)) (answers : List ℕ)
-      → IsHistory job.world job.starts job.scripts front told → Ends job.world front (Some f) → Holds job.world held.graph held.seat front
-      → AreAnswers f (slice_index job.starts 0) job.asks answers
-      → Grows reporters places (Taken job) Done front (Some held) (whole_text f told (statistics_text reporters places (items_of f)) answers)
-  -- a job with more reached words than cells: there is one history of it, in which some word found no cell; the text has
-  -- its replies, and `full`
-  grow_full : (job : Job) (front : List Event) (held : Held) (told : List (List Reply)) → IsHistory job.world job.starts job.scripts front told
-      → Ends job.world front None → Holds job.world held.graph held.seat front → Grows reporters places (Taken job) Full front (Some held) (full_text job.world.space told)
+  -- a job whose graph is finished: there is one run of it; the text has its replies, the graph of its vertices, the
+  -- statistics and the answers to the asks
+  grow_whole : (job : Job) (f : FinishedType) (front : List Event) (held : Held) (told : List (List Reply)) (answers : List AskAnswer)
+      → IsRunOf job (Some f) front held told → AreAnswers f (slice_index job.starts 0) job.asks answers
+      → Grows reporters places (Taken job) Done front (Some held) (whole_text f told (statistics_text reporters places (items_of f)) (asks_text f answers))
+  -- a job with more reached words than cells: there is one run of it; the text has its replies, and `full`
+  grow_full : (job : Job) (front : List Event) (held : Held) (told : List (List Reply)) → IsRunOf job None front held told
+      → Grows reporters places (Taken job) Full front (Some held) (full_text job.world.space told)
+
+-- ---- sample
+
+-- the status of a run that ended in this graph, or in none
+abbrev pub run_status : Option FinishedType → Status
+run_status (Some f) = Done
+run_status None = Full
+
+-- the status, the history, the graph with its one seat, and the text that the number of a sample calls for: those of a run
+-- of the job that the sample with this number is judged to be, of which the text has no more than the sizes
+pub data Samples (number : ℕ) : Status → List Event → Option Held → List ℕ → Type 0 where
+  sample_whole : (job : Job) (f : FinishedType) (front : List Event) (held : Held) (told : List (List Reply)) → judge (sample number) ≡ Ok job
+      → IsRunOf job (Some f) front held told → Samples number Done front (Some held) (sample_answer number job.world.space.cartan 4 256 (graph_head f))
+  sample_full : (job : Job) (front : List Event) (held : Held) (told : List (List Reply)) → judge (sample number) ≡ Ok job
+      → IsRunOf job None front held told → Samples number Full front (Some held) (sample_answer number job.world.space.cartan 4 256 full_line)
 
 -- ---- census
 
 -- the most tableaux that are listed
 abbrev pub census_limit : ℕ
 census_limit = 65536
-
--- the text of a census by the codes of the tableaux, and where there are too many
-abbrev pub census_text : ShapeType → List ℕ → List ℕ
-census_text shape list = ended (census_line shape.cartan) ++ tableaux_text (shape_space shape) list ++ ended end_line
-
-abbrev pub full_census_text : CartanType → List ℕ
-full_census_text t = ended (census_line t) ++ ended full_line ++ ended end_line
 
 -- the status and the text that a shape calls for
 pub data Counts (shape : ShapeType) : Status → List ℕ → Type 0 where
@@ -93,21 +97,15 @@ relabel_of t relabelling.Star = starred t
 abbrev pub marked : Relabelling → Job → PointedType
 marked r job = pointed job.world.space (slice_index job.starts 0) (slice_index job.starts 1) (relabel_of job.world.space.cartan r)
 
--- the text of a comparison, by its middle line
-abbrev pub match_text : CartanType → List ℕ → List ℕ
-match_text t line = ended (head_line t) ++ ended line ++ ended end_line
-
 -- the status and the text that an input calls for; a job with fewer than two starts is refused with the fault 16, and the
 -- job's cells are the most pairs
 pub data Compares (r : Relabelling) : Input → Status → List ℕ → Type 0 where
   match_refused : (line fault : ℕ) → Compares r (Refused line fault) JobRefused (job_refusal line fault)
   match_few : (job : Job) → length job.starts < 2 → Compares r (Taken job) JobRefused (job_refusal 0 16)
-  match_same : (job : Job) (pairs : List (ℕ × ℕ)) → 2 ≤ length job.starts → AreSame (marked r job) pairs
-      → (PairsOutnumber (marked r job) job.world.cells → ⊥) → Compares r (Taken job) Done (match_text job.world.space.cartan (same_line (length pairs)))
-  match_differ : (job : Job) (walk : List Arrow) → 2 ≤ length job.starts → IsFirstTelling (marked r job) walk
-      → (PairsOutnumber (marked r job) job.world.cells → ⊥) → Compares r (Taken job) Done (match_text job.world.space.cartan (differs_line walk))
+  match_told : (job : Job) (verdict : Verdict) → 2 ≤ length job.starts → IsVerdict (marked r job) verdict
+      → (PairsOutnumber (marked r job) job.world.cells → ⊥) → Compares r (Taken job) Done (match_text job.world.space.cartan (verdict_line (Some verdict)))
   match_full : (job : Job) → 2 ≤ length job.starts → PairsOutnumber (marked r job) job.world.cells
-      → Compares r (Taken job) Full (match_text job.world.space.cartan full_line)
+      → Compares r (Taken job) Full (match_text job.world.space.cartan (verdict_line None))
 
 -- ---- all of them
 
@@ -116,6 +114,8 @@ pub data Calls (reporters : List Reporter) (input : List ℕ) : Heard → Status
   call_refused : (fault : ℕ) → Calls reporters input (heard.Refused fault) WordsRefused [] None (words_refusal fault)
   call_grow : (growers : ℕ) (places : List ℕ) (status : Status) (front : List Event) (held : Option Held) (text : List ℕ)
       → Grows reporters places (judged_input input) status front held text → Calls reporters input (heard.Grow growers places) status front held text
+  call_sample : (growers number : ℕ) (status : Status) (front : List Event) (held : Option Held) (text : List ℕ)
+      → Samples number status front held text → Calls reporters input (heard.Sample growers number) status front held text
   call_census : (shape : ShapeType) (status : Status) (text : List ℕ) → Counts shape status text
       → Calls reporters input (heard.Census shape) status [] None text
   call_match : (r : Relabelling) (status : Status) (text : List ℕ) → Compares r (judged_input input) status text

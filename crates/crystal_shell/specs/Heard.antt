@@ -9,18 +9,18 @@ use Rattle.command_words.specs.declared.fault.WordsFault.{WordsFault}
 use Rattle.command_words.specs.declared.settings.Settings.{Settings}
 use Rattle.command_words.specs.declared.settings.Settings.TheVariants as setting
 use Rattle.crystal_shell.specs.declared.hearing.Heard.{Heard}
-use Rattle.crystal_shell.specs.declared.hearing.Heard.TheVariants.{Refused, Grow, Census, Match}
+use Rattle.crystal_shell.specs.declared.hearing.Heard.TheVariants.{Refused, Grow, Sample, Census, Match}
 
 -- the number of a fault of the words; a judgement is never want of memory, which has none
 abbrev pub number_of : Option ℕ → ℕ
 number_of (Some number) = number
 number_of None = 0
 
--- what judged words ask for; the mode `sample` is not served yet, and refused with the number 8
+-- what judged words ask for
 abbrev pub heard_of : Result Settings WordsFault → Heard
 heard_of (Err fault) = Refused (number_of (fault_number fault))
 heard_of (Ok (setting.Grow growers places)) = Grow growers places
-heard_of (Ok (setting.Sample growers number)) = Refused 8
+heard_of (Ok (setting.Sample growers number)) = Sample growers number
 heard_of (Ok (setting.Census shape)) = Census shape
 heard_of (Ok (setting.Match relabelling)) = Match relabelling
 
@@ -28,10 +28,11 @@ heard_of (Ok (setting.Match relabelling)) = Match relabelling
 abbrev pub heard_in : List (List ℕ) → List (List ℕ) → Heard
 heard_in words names = heard_of (judge_words words names)
 
--- whether they ask for a job
+-- whether they ask for a job that is read
 abbrev pub asks_for_job : Heard → Bool
 asks_for_job (Refused fault) = false
 asks_for_job (Grow growers places) = true
+asks_for_job (Sample growers number) = false
 asks_for_job (Census shape) = false
 asks_for_job (Match relabelling) = true
 
@@ -44,5 +45,6 @@ pub record AreChosen (count : ℕ) (places : List ℕ) : Type 0 where
 abbrev pub Fits : ℕ → Heard → Type 0
 Fits count (Refused fault) = Unit {0}
 Fits count (Grow growers places) = (1 ≤ growers) × (growers ≤ 16) × AreChosen count places
+Fits count (Sample growers number) = (1 ≤ growers) × (growers ≤ 16)
 Fits count (Census shape) = (shape.cartan.kind ≡ A) × (shape.order ≡ Standard)
 Fits count (Match relabelling) = Unit {0}

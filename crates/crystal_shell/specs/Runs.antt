@@ -22,7 +22,7 @@ pub record Called (reporters : List Reporter) (words : List (List ℕ)) (left : 
 -- what was read of a source, of which contracts see what it has left and how many of its reads failed, in a call that may
 -- have come to nothing by a fault of a read
 pub record HasRead {S : Type 0} (left : S → Option (List ℕ)) (faults : S → ℕ) (reporters : List Reporter) (words : List (List ℕ)) (before after : S) (done failed : Type 0) : Type 0 where
-  -- a source is left alone where the words ask for no job
+  -- a source is left alone where the words ask for no job that is read
   pub alone : asks_for_job (heard_in words (names_of reporters)) ≡ false → after ≡ before
   -- else it is read to its end, or to one byte more than a job may have
   pub whole : asks_for_job (heard_in words (names_of reporters)) ≡ true → done → ReadsJob (left before) (left after)

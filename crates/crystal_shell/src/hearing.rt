@@ -11,9 +11,6 @@ use crystal_streams::NoMemory;
 use std::alloc::Global;
 use tableau_reading::Shape;
 
-/// The fault of command words whose mode is not served yet.
-const MODE_NOT_SERVED: u8 = 8;
-
 /// What the command words ask for.
 #[derive(Drop)]
 pub(crate) enum Heard {
@@ -21,6 +18,8 @@ pub(crate) enum Heard {
     Refused { fault: u8 },
     /// A job's crystal, grown by so many growers, and the statistics at these places.
     Grow { growers: u32, places: Places },
+    /// The crystal of the sample job of this number, grown by so many growers.
+    Sample { growers: u32, number: u32 },
     /// The tableaux of a shape.
     Census { shape: Shape },
     /// A job's first two starts compared.
@@ -43,7 +42,7 @@ pub(crate) fn hear(
     }
 }
 
-/// What accepted settings ask for: they are refused where their mode is not served.
+/// What accepted settings ask for.
 fn heard_of(settings: Settings) -> Heard
     ensures heard { result ≡ heard_of (Ok settings) }
     ensures fits { (count : ℕ) → FitsNames count settings → Fits count result }
@@ -53,9 +52,7 @@ fn heard_of(settings: Settings) -> Heard
             growers,
             places: chosen,
         },
-        Settings::Sample { .. } => Heard::Refused {
-            fault: MODE_NOT_SERVED,
-        },
+        Settings::Sample { growers, number } => Heard::Sample { growers, number },
         Settings::Census { shape } => Heard::Census { shape },
         Settings::Match { relabelling } => Heard::Match { relabelling },
     }

@@ -1,4 +1,16 @@
 //! The workbench for crystal graphs as a program: command words and a job in, the answer out.
+//!
+//! **Promises.** `run` (`top`, the module to read first, with specs/Runs.antt) writes the text that the command words and
+//! the input call for, under the status that they call for; where a stream fails or memory is short its status says so.
+//! `main` hands it the words, the standard streams and the three statistics.
+//!
+//! Its modules follow a run: `hearing` has the command words, `inputs` the job, `growing`, `samples`, `counting` and
+//! `matching` a mode each, `statistics` what is chosen, fed and reported, `refusals` the answers to refused words and
+//! jobs, `outcomes` what a run ends with. `laws` says what words and input determine of an answer.
+//!
+//! **Stands on** command_words and job_text for what is read, graph_runs for the run of a job, tableau_census and
+//! crystal_match for the other modes, crystal_characters and ask_answers for statistics and asks, and answer_text, which
+//! alone prints.
 #![tactic(auto)]
 
 mod counting;
@@ -9,6 +21,7 @@ mod laws;
 mod matching;
 mod outcomes;
 mod refusals;
+mod samples;
 mod statistics;
 #[cfg(test)]
 mod tests;

@@ -1,17 +1,16 @@
 //! The mode `match`: the components of a job's first two starts compared.
-ghost use Rattle.std.specs.Prelude.{◌≡◌, ◌≤◌, ◌<◌, ◌^◌, [], None, IfOk, length};
+ghost use Rattle.std.specs.Prelude.{◌≡◌, [], Some, None, IfOk};
 ghost use Rattle.job_text.specs.Jobs.{IsJob};
-ghost use Rattle.answer_text.specs.Modes.{differs_line, same_line};
-ghost use Rattle.answer_text.specs.Texts.{full_line};
+ghost use Rattle.answer_text.specs.Answers.{IsPrintableAnswer, answer_bytes};
 ghost use Rattle.crystal_shell.specs.Inputs.{IsLawful};
-ghost use Rattle.crystal_shell.specs.Answers.{Compares, match_text, relabel_of};
+ghost use Rattle.crystal_shell.specs.Answers.{Compares, relabel_of};
 
 use crate::inputs::Input;
-use crate::outcomes::{Answer, Status};
+use crate::outcomes::{Answered, Status};
 use crate::refusals::refused_job;
-use answer_text::{push_differs, push_end, push_full, push_head, push_same};
+use answer_text::Answer;
 use command_words::Relabelling;
-use crystal_cartan::{Arrow, Cartan};
+use crystal_cartan::Cartan;
 use crystal_match::{MatchFault, Relabel, Verdict, compare};
 use crystal_streams::NoMemory;
 use job_text::Job;
@@ -25,44 +24,54 @@ pub(crate) fn matched(
     alloc: Global,
     input: Input,
     relabelling: Relabelling,
-) -> Result<Answer, NoMemory>
+) -> Result<Answered, NoMemory>
     requires { IsLawful input }
-    ensures compares { IfOk result (λ a. Compares relabelling input a.status a.text.items) }
+    ensures compares { IfOk result (λ a. Compares relabelling input a.status (answer_bytes a.answer)) }
+    ensures printable { IfOk result (λ a. IsPrintableAnswer a.answer) }
     ensures unkept { IfOk result (λ a. (a.front ≡ []) × (a.held ≡ None)) }
 {
     match input {
-        Input::Refused { line, fault } => refused_job(alloc, line, fault),
+        Input::Refused { line, fault } => Ok(refused_job(line, fault)),
         Input::Taken { job } => match_job(alloc, &job, relabelling),
     }
 }
 
 /// The answer to a job.
-fn match_job(alloc: Global, job: &Job, relabelling: Relabelling) -> Result<Answer, NoMemory>
+fn match_job(alloc: Global, job: &Job, relabelling: Relabelling) -> Result<Answered, NoMemory>
     requires { IsJob job.now }
-    ensures compares { IfOk result (λ a. Compares relabelling (Input.Taken job.now) a.status a.text.items) }
+    ensures compares { IfOk result (λ a. Compares relabelling (Input.Taken job.now) a.status (answer_bytes a.answer)) }
+    ensures printable { IfOk result (λ a. IsPrintableAnswer a.answer) }
     ensures unkept { IfOk result (λ a. (a.front ≡ []) × (a.held ≡ None)) }
 {
     if job.starts.len() < 2 {
-        return refused_job(alloc, 0, FEW_STARTS);
+        return Ok(refused_job(0, FEW_STARTS));
     }
     let space = job.world.space();
-    let relabel = relabel_of(space.cartan(), relabelling);
+    let cartan = space.cartan();
+    let relabel = relabel_of(cartan, relabelling);
     let (first, second) = (job.starts.at(0), job.starts.at(1));
     match compare(alloc, space, first, second, &relabel, job.world.cells()) {
-        Ok(Verdict::Same { pairs }) => Ok(Answer::without_history(
-            Status::Done,
-            same(alloc, space.cartan(), pairs.len())?,
-        )),
-        Ok(Verdict::Differs { walk }) => Ok(Answer::without_history(
-            Status::Done,
-            differs(alloc, space.cartan(), walk.as_slice())?,
-        )),
-        Err(MatchFault::TooMany) => Ok(Answer::without_history(
+        Ok(Verdict::Same { pairs }) => Ok(told(cartan, Verdict::Same { pairs })),
+        Ok(Verdict::Differs { walk }) => Ok(told(cartan, Verdict::Differs { walk })),
+        Err(MatchFault::TooMany) => Ok(Answered::without_history(
             Status::Full,
-            full(alloc, space.cartan())?,
+            Answer::Comparison {
+                cartan,
+                verdict: None,
+            },
         )),
         Err(MatchFault::NoMemory) => Err(NoMemory),
     }
+}
+
+/// The answer with this verdict.
+fn told(cartan: Cartan, verdict: Verdict) -> Answered
+    ensures status { result.status ≡ Status.Done }
+    ensures unkept { (result.front ≡ []) × (result.held ≡ None) }
+    ensures answer { result.answer ≡ Answer.Comparison cartan (Some verdict) }
+{
+    let verdict = Some(verdict);
+    Answered::without_history(Status::Done, Answer::Comparison { cartan, verdict })
 }
 
 /// How the arrows are relabelled.
@@ -73,38 +82,4 @@ fn relabel_of(cartan: Cartan, relabelling: Relabelling) -> Relabel
         Relabelling::Same => Relabel::same(cartan),
         Relabelling::Star => Relabel::star(cartan),
     }
-}
-
-/// The text of components that are alike, with so many pairs.
-fn same(alloc: Global, cartan: Cartan, pairs: usize) -> Result<Vec<u8>, NoMemory>
-    requires { pairs < 2 ^ 63 }
-    ensures { IfOk result (λ text. text.items ≡ match_text cartan (same_line pairs)) }
-{
-    let mut text = Vec::new(alloc);
-    push_head(&mut text, cartan)?;
-    push_same(&mut text, pairs)?;
-    push_end(&mut text)?;
-    Ok(text)
-}
-
-/// The text of components that this walk tells apart.
-fn differs(alloc: Global, cartan: Cartan, walk: &[Arrow]) -> Result<Vec<u8>, NoMemory>
-    ensures { IfOk result (λ text. text.items ≡ match_text cartan (differs_line walk.now)) }
-{
-    let mut text = Vec::new(alloc);
-    push_head(&mut text, cartan)?;
-    push_differs(&mut text, walk)?;
-    push_end(&mut text)?;
-    Ok(text)
-}
-
-/// The text where there are too many pairs.
-fn full(alloc: Global, cartan: Cartan) -> Result<Vec<u8>, NoMemory>
-    ensures { IfOk result (λ text. text.items ≡ match_text cartan full_line) }
-{
-    let mut text = Vec::new(alloc);
-    push_head(&mut text, cartan)?;
-    push_full(&mut text)?;
-    push_end(&mut text)?;
-    Ok(text)
 }

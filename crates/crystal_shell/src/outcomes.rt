@@ -3,6 +3,7 @@ ghost use Rattle.std.specs.Prelude.{◌≡◌, [], None};
 ghost use Rattle.crystal_shell.specs.Answers.{status_number};
 ghost use Rattle.crystal_shell.specs.Stops.{stop_number};
 
+use answer_text::Answer;
 use crystal_streams::NoMemory;
 use graph_history::Front;
 use graph_runs::Held;
@@ -13,7 +14,7 @@ pub struct Outcome {
     /// 0 done, 1 words refused, 2 job refused, 3 there are more words, tableaux or pairs than may be, 4 a read failed,
     /// 5 a write failed, 6 want of memory.
     pub status: u8,
-    /// The history of the run under `grow`; empty in the other modes, where the words or the job are refused, and under 4
+    /// The history of the run under `grow` and `sample`; empty in the other modes, where the words or the job are refused, and under 4
     /// and 6.
     pub front: Front,
     /// The graph of the run, with its one seat; there exactly where there is such a history.
@@ -43,28 +44,28 @@ impl Status {
     }
 }
 
-/// An answer, before it is written.
+/// An answer with its status, before it is written.
 #[derive(Drop)]
-pub(crate) struct Answer {
+pub(crate) struct Answered {
     pub(crate) status: Status,
     pub(crate) front: Front,
     pub(crate) held: Option<Held>,
-    pub(crate) text: Vec<u8>,
+    pub(crate) answer: Answer,
 }
 
-impl Answer {
+impl Answered {
     /// The answer without a history.
-    pub(crate) fn without_history(status: Status, text: Vec<u8>) -> Answer
+    pub(crate) fn without_history(status: Status, answer: Answer) -> Answered
         ensures status { result.status ≡ status }
         ensures front { result.front ≡ [] }
         ensures held { result.held ≡ None }
-        ensures text { result.text.items ≡ text.items }
+        ensures answer { result.answer ≡ answer }
     {
-        Answer {
+        Answered {
             status,
             front: Front::empty(),
             held: None,
-            text,
+            answer,
         }
     }
 }

@@ -1,26 +1,23 @@
 //! The answers to refused command words and refused jobs.
-ghost use Rattle.std.specs.Prelude.{◌≡◌, [], None, IfOk};
-ghost use Rattle.answer_text.specs.Texts.{job_refusal, words_refusal};
+ghost use Rattle.std.specs.Prelude.{◌≡◌, [], None};
 
-use crate::outcomes::{Answer, Status};
-use answer_text::{push_job_refusal, push_words_refusal};
-use crystal_streams::NoMemory;
-use std::alloc::Global;
+use crate::outcomes::{Answered, Status};
+use answer_text::Answer;
 
 /// The answer to command words with this fault.
-pub(crate) fn refused_words(alloc: Global, fault: u8) -> Result<Answer, NoMemory>
-    ensures { IfOk result (λ a. (a.status ≡ Status.WordsRefused) × (a.front ≡ []) × (a.held ≡ None) × (a.text.items ≡ words_refusal fault)) }
+pub(crate) fn refused_words(fault: u8) -> Answered
+    ensures status { result.status ≡ Status.WordsRefused }
+    ensures unkept { (result.front ≡ []) × (result.held ≡ None) }
+    ensures answer { result.answer ≡ Answer.WordsRefused fault }
 {
-    let mut text = Vec::new(alloc);
-    push_words_refusal(&mut text, fault)?;
-    Ok(Answer::without_history(Status::WordsRefused, text))
+    Answered::without_history(Status::WordsRefused, Answer::WordsRefused { fault })
 }
 
 /// The answer to a job with this fault at this line.
-pub(crate) fn refused_job(alloc: Global, line: u32, fault: u8) -> Result<Answer, NoMemory>
-    ensures { IfOk result (λ a. (a.status ≡ Status.JobRefused) × (a.front ≡ []) × (a.held ≡ None) × (a.text.items ≡ job_refusal line fault)) }
+pub(crate) fn refused_job(line: u32, fault: u8) -> Answered
+    ensures status { result.status ≡ Status.JobRefused }
+    ensures unkept { (result.front ≡ []) × (result.held ≡ None) }
+    ensures answer { result.answer ≡ Answer.JobRefused line fault }
 {
-    let mut text = Vec::new(alloc);
-    push_job_refusal(&mut text, line, fault)?;
-    Ok(Answer::without_history(Status::JobRefused, text))
+    Answered::without_history(Status::JobRefused, Answer::JobRefused { line, fault })
 }

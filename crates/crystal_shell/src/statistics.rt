@@ -1,12 +1,12 @@
 //! Statistics: chosen by their names, fed with the vertices of a finished graph, and reported.
-ghost use Rattle.std.specs.Prelude.{◌≡◌, ◌≤◌, List, ◌++◌, IfOk, OnOk, map, length, string_bytes};
+ghost use Rattle.std.specs.Prelude.{◌≡◌, List, IfOk, map, length, string_bytes};
 ghost use Rattle.command_words.specs.Judge.{judge_words, IsAnswer, FitsNames};
-ghost use Rattle.answer_text.specs.Texts.{statistic_text};
+ghost use Rattle.answer_text.specs.Answers.{AreShort};
 ghost use Rattle.crystal_characters.specs.Items.{items_of};
-ghost use Rattle.crystal_shell.specs.Statistics.{AreFresh, Reporter, names_of, statistics_text};
+ghost use Rattle.crystal_shell.specs.Statistics.{AreFresh, AreReports, Reporter, names_of};
 ghost use Rattle.crystal_shell.specs.Heard.{AreChosen};
 
-use answer_text::push_statistic;
+use answer_text::Report;
 use canonical_graph::Finished;
 use command_words::{Places, Settings, WordsFault, read_words};
 use crystal_characters::{Statistic, feed_chosen};
@@ -49,32 +49,35 @@ fn name_of(stat: &Box<dyn Statistic>) -> &str
     stat.name()
 }
 
-/// Feeds the statistics that stand at these places with the vertices, and appends their reports in this order.
-pub(crate) fn push_statistics(
+/// Feeds the statistics that stand at these places with the vertices, and takes their reports, in this order.
+pub(crate) fn reports(
     alloc: Global,
-    out: &mut Vec<u8>,
     stats: &mut Vec<Box<dyn Statistic>>,
     places: &Places,
     finished: &Finished,
-) -> Result<(), NoMemory>
+) -> Result<Vec<Report>, NoMemory>
     requires chosen { AreChosen (length stats.old.items) places.now }
     requires fresh { AreFresh (λ b. named b) (λ b. fed b) stats.old.items }
-    ensures { let reporters : List Reporter = map (λ b. record { name = named b; reports = reported b }) stats.old.items in
-        OnOk result (out.new.items ≡ out.old.items ++ statistics_text reporters places.now (items_of finished.now)) }
+    ensures reports { let reporters : List Reporter = map (λ b. record { name = named b; reports = reported b }) stats.old.items in
+        IfOk result (λ reports. AreReports reporters places.now (items_of finished.now) reports.items) }
+    ensures short { IfOk result (λ reports. AreShort reports.items) }
 {
     feed_chosen(stats, places.as_slice(), finished)?;
+    let mut reports = Vec::with_capacity(alloc, places.len())?;
     'places: for k in 0..places.len() {
-        push_report(alloc, out, &stats[places.at(k)])?;
+        let report = report_of(alloc, &stats[places.at(k)])?;
+        reports.push_reserved(report);
     }
-    Ok(())
+    Ok(reports)
 }
 
-/// Appends the report of a statistic.
-fn push_report(alloc: Global, out: &mut Vec<u8>, stat: &Box<dyn Statistic>) -> Result<(), NoMemory>
-    requires { length (named stat.now) ≤ 64 }
-    ensures { OnOk result (out.new.items ≡ out.old.items ++ statistic_text (named stat.now) (reported stat.now (fed stat.now))) }
+/// What a statistic reports, under its name.
+fn report_of(alloc: Global, stat: &Box<dyn Statistic>) -> Result<Report, NoMemory>
+    ensures name { IfOk result (λ report. string_bytes report.name ≡ named stat.now) }
+    ensures bytes { IfOk result (λ report. report.bytes.items ≡ reported stat.now (fed stat.now)) }
 {
-    let mut report = Vec::new(alloc);
-    stat.report(&mut report)?;
-    push_statistic(out, name_of(stat).as_bytes(), report.as_slice())
+    let name = String::from_str(alloc, name_of(stat))?;
+    let mut bytes = Vec::new(alloc);
+    stat.report(&mut bytes)?;
+    Ok(Report { name, bytes })
 }

@@ -3,6 +3,7 @@ ghost use Rattle.std.specs.Prelude.{◌≡◌, ◌≤◌, ◌⊎◌, ℕ, List, 
 ghost use Rattle.std.specs.Io.KnownBytes.{Appends};
 ghost use Rattle.crystal_streams.specs.Faults.{Rose};
 ghost use Rattle.crystal_shell.specs.Statistics.{AreFresh, Reporter};
+ghost use Rattle.answer_text.specs.Answers.{IsPrintableAnswer, answer_bytes};
 ghost use Rattle.crystal_shell.specs.Answers.{status_number};
 ghost use Rattle.crystal_shell.specs.Stops.{stop_number};
 ghost use Rattle.crystal_shell.specs.Runs.{Called, HasRead, IsRun, IsWritten};
@@ -12,10 +13,12 @@ use crate::growing::grow;
 use crate::hearing::{Heard, hear};
 use crate::inputs::read_input;
 use crate::matching::matched;
-use crate::outcomes::{Answer, Outcome, Stop};
+use crate::outcomes::{Answered, Outcome, Stop};
 use crate::refusals::refused_words;
+use crate::samples::sample;
+use answer_text::{Page, print_answer};
 use crystal_characters::Statistic;
-use crystal_streams::{Gate, Sink, Source, WriteFault, write_all};
+use crystal_streams::{Gate, Sink, Source, WriteFault};
 use graph_history::Front;
 use std::alloc::Global;
 use std::thread::Threads;
@@ -25,7 +28,7 @@ const WRITE_FAULT: u8 = 5;
 
 /// Reads command words and a job, and writes the answer. All memory is taken before the first write.
 ///
-/// `words` are the command words without the program's name. Under `grow` the sessions of the job run beside each other
+/// `words` are the command words without the program's name. Under `grow` and `sample` the sessions of the job run beside each other
 /// and beside the growth, on threads of their own, over one graph; its history is in the outcome, and so is the graph with
 /// the one seat that is left. Each grower and each session passes the gate before its turns. Of the statistics those whose
 /// names the words have are fed every vertex once, in ascending rank, and reported; each has been fed nothing before, and
@@ -44,9 +47,12 @@ pub fn run<T: Threads + Sync, R: Source, W: Sink, G: Gate>(
         IsRun (λ s. R.left s) (λ s. R.faults s) (λ s. W.held s) (λ s. W.faults s) reporters (map string_bytes words.now)
         source.old source.new sink.old sink.new result }
 {
+    let Ok(page) = Page::new(alloc) else {
+        return without_answer(Stop::NoMemory);
+    };
     let mut stats = stats;
     match answer(rt, alloc, words, source, &mut stats, gate) {
-        Ok(answer) => write_answer(sink, answer),
+        Ok(answered) => write_answer(sink, page, answered),
         Err(stop) => without_answer(stop),
     }
 }
@@ -64,21 +70,23 @@ fn without_answer(stop: Stop) -> Outcome
     }
 }
 
-/// Writes an answer.
-fn write_answer<W: Sink>(sink: &mut W, answer: Answer) -> Outcome
-    ensures front { result.front ≡ answer.front }
-    ensures held { result.held ≡ answer.held }
+/// Writes an answer by way of an empty page. No memory is taken.
+fn write_answer<W: Sink>(sink: &mut W, page: Page, answered: Answered) -> Outcome
+    requires empty { page ≡ [] }
+    requires printable { IsPrintableAnswer answered.answer }
+    ensures front { result.front ≡ answered.front }
+    ensures held { result.held ≡ answered.held }
     ensures written { IsWritten (W.held sink.old) (W.held sink.new) (W.faults sink.old) (W.faults sink.new)
-        answer.status answer.text.items result.status }
+        answered.status (answer_bytes answered.answer) result.status }
     ensures later { W.faults sink.old ≤ W.faults sink.new }
 {
-    let Answer {
+    let Answered {
         status,
         front,
         held,
-        text,
-    } = answer;
-    match write_all(sink, text.as_slice()) {
+        answer,
+    } = answered;
+    match print_answer(sink, page, &answer) {
         Ok(()) => Outcome {
             status: status.number(),
             front,
@@ -100,22 +108,24 @@ fn answer<T: Threads + Sync, R: Source, G: Gate>(
     source: &mut R,
     stats: &mut Vec<Box<dyn Statistic>>,
     gate: &G,
-) -> Result<Answer, Stop>
+) -> Result<Answered, Stop>
     requires { AreFresh (λ b. named b) (λ b. fed b) stats.old.items }
     ensures called { let reporters : List Reporter = map (λ b. record { name = named b; reports = reported b }) stats.old.items in
-        IfOk result (λ a. Called reporters (map string_bytes words.now) (R.left source.old) a.status a.front a.held a.text.items) }
+        IfOk result (λ a. Called reporters (map string_bytes words.now) (R.left source.old) a.status a.front a.held (answer_bytes a.answer)) }
+    ensures printable { IfOk result (λ a. IsPrintableAnswer a.answer) }
     ensures read { let reporters : List Reporter = map (λ b. record { name = named b; reports = reported b }) stats.old.items in
         HasRead (λ s. R.left s) (λ s. R.faults s) reporters (map string_bytes words.now) source.old source.new
         (IsOk result) (IsErrOf result Stop.ReadFault) }
 {
     let heard = hear(alloc, words, stats.as_slice())?;
     match heard {
-        Heard::Refused { fault } => Ok(refused_words(alloc, fault)?),
+        Heard::Refused { fault } => Ok(refused_words(fault)),
         Heard::Grow { growers, places } => {
             let input = read_input(alloc, source)?;
             Ok(grow(rt, alloc, input, growers, stats, &places, gate)?)
         }
-        Heard::Census { shape } => Ok(count(alloc, &shape)?),
+        Heard::Sample { growers, number } => Ok(sample(rt, alloc, growers, number, gate)?),
+        Heard::Census { shape } => Ok(count(alloc, shape)?),
         Heard::Match { relabelling } => {
             let input = read_input(alloc, source)?;
             Ok(matched(alloc, input, relabelling)?)

@@ -5,3 +5,4 @@ pub mod Drafts
 pub mod DraftFields
 pub mod Judge
 pub mod Outcomes
+pub mod Samples

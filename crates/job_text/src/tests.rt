@@ -125,3 +125,55 @@ fn every_key_word(rt: HostRuntime) {
     assert_eq!(rt; reflected(ask(&job, 2)), Some(2));
     assert_eq!(rt; job.asks.len(), 3);
 }
+
+/// The value of bytes as digits in base 31, modulo 2^32.
+fn checksum(bytes: &[u8]) -> u32 {
+    let mut value = 0u32;
+    for byte in bytes {
+        value = value.wrapping_mul(31).wrapping_add(u32::from(*byte));
+    }
+    value
+}
+
+// Numbers, lengths and checksums are what tests/peers/sample_peer.py prints.
+#[test]
+fn samples_beside_another_model(rt: HostRuntime) {
+    for (number, bytes, sum) in [
+        (0, 6617, 3539380902),
+        (1, 4590, 2742263466),
+        (2, 7576, 2809835908),
+        (3, 5487, 1756142449),
+        (4, 6697, 3012647378),
+        (5, 4588, 1351899565),
+        (6, 7807, 1204688371),
+        (7, 5373, 2686471527),
+        (4294967295, 5591, 1161439368),
+    ] {
+        let text = sample_text(rt.alloc(), number).expect(&rt, "there is memory");
+        assert_eq!(rt; text.len(), bytes);
+        assert_eq!(rt; checksum(text.as_slice()), sum);
+        let job = sample_job(rt.alloc(), number).expect(&rt, "there is memory");
+        assert_eq!(rt; job.scripts.len(), 4);
+    }
+}
+
+/// How the sample with the number 2 begins: its first number is 14170967488582549417.
+const SAMPLE_2: &[u8] = b"crystal-job 1
+type C 4
+shape 4 3 2 1
+cells 200000
+session
+find 4 3 2 1 3 2 1 2 1 1
+";
+
+#[test]
+fn first_lines_of_a_sample(rt: HostRuntime) {
+    let text = sample_text(rt.alloc(), 2).expect(&rt, "there is memory");
+    assert!(rt; text.as_slice().starts_with(SAMPLE_2));
+    let job = sample_job(rt.alloc(), 2).expect(&rt, "there is memory");
+    assert_eq!(rt; job.world.cells(), 200000);
+    assert!(rt; has_codes(&job.starts, &[438374464]));
+    assert_eq!(rt; command(&job, 0, 0), Some(Command::Find(438374464)));
+    assert_eq!(rt; command(&job, 3, 63).is_some(), true);
+    assert_eq!(rt; command(&job, 3, 64), None);
+}

@@ -2,9 +2,9 @@
 ghost use Rattle.std.specs.Prelude.{◌≡◌, ◌≤◌, [], length};
 ghost use Rattle.session_desk.specs.Texts.{IsPrintable, reply_text};
 
-use crate::words::word_with;
 use crystal_cartan::Weight;
 use crystal_streams::Line;
+use job_text::word_with;
 use tableau_reading::{print_weight, print_word};
 use tensor_words::Space;
 

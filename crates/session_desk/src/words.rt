@@ -2,24 +2,12 @@
 ghost use Rattle.std.specs.Prelude.{◌≡◌, ℕ, ◌<◌};
 ghost use Rattle.crystal_cartan.specs.Types.{HasIndex};
 ghost use Rattle.tensor_words.specs.Spaces.{size};
-ghost use Rattle.tensor_words.specs.Codes.{IsWord, word_of};
 ghost use Rattle.session_desk.specs.Replies.{weight_at, eps_at, phi_at};
 ghost use Rattle.session_desk.specs.Texts.{IsPrintable};
 
 use crate::reply::Reply;
-use tensor_words::{Space, Word};
-
-/// The word with this code.
-pub(crate) fn word_with(space: &Space, code: u64) -> Word
-    requires { code < size space.now }
-    ensures value { result ≡ word_of space.now code }
-    ensures word { IsWord space.now result }
-{
-    match space.word_of(code) {
-        Some(word) => word,
-        None => unreachable!(),
-    }
-}
+use job_text::word_with;
+use tensor_words::Space;
 
 /// The weight of a word.
 #[tactic(auto, unfolding(crate::specs::Replies::weight_at))]

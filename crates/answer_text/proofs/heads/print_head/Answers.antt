@@ -1,0 +1,7 @@
+use Rattle.std.proofs.Common.{ap}
+use Rattle.crystal_streams.specs.Lines.{ended}
+use Rattle.answer_text.proofs.Printed.{prints_as}
+use Rattle.answer_text.proofs.heads.print_head.Goals as goal
+
+pub returns : goal.returns
+returns g c = prints_as (ap ended c.type_line.ensures) c.print_line.ensures

@@ -1,0 +1,86 @@
+//! The answer as data, before it is printed.
+
+use canonical_graph::Finished;
+use crystal_cartan::{Cartan, Weight};
+use crystal_match::Verdict;
+use session_desk::Replies;
+use tableau_reading::Shape;
+use tensor_words::{Codes, Space};
+
+/// What an ask about a finished graph is answered. Vertices stand as their ranks.
+#[derive(Debug, Drop)]
+pub enum AskAnswer {
+    /// The members of the Demazure subset of these indices, in ascending rank.
+    Demazure {
+        indices: Vec<u8>,
+        ranks: Vec<u32>,
+    },
+    /// The vertices that are tops beside the top of this shape, in ascending rank, each with the weight of the product.
+    Tops {
+        shape: Shape,
+        tops: Vec<(u32, Weight)>,
+    },
+    /// The images of all vertices under the crystal reflection at this index, in ascending rank of the vertices.
+    Reflection {
+        index: u8,
+        images: Vec<u32>,
+    },
+}
+
+/// What a statistic reports. The lines of the report have their ends.
+#[derive(Debug, Drop)]
+pub struct Report {
+    /// The name of the statistic, at most 64 bytes.
+    pub name: String,
+    pub bytes: Vec<u8>,
+}
+
+/// A finished graph, and what is told of it.
+#[derive(Debug, Drop)]
+pub struct Whole {
+    pub finished: Finished,
+    /// The reports of the chosen statistics, in the order in which they were chosen.
+    pub reports: Vec<Report>,
+    /// The answers to the asks, in the order of the job.
+    pub asks: Vec<AskAnswer>,
+}
+
+/// An answer of the program.
+#[derive(Debug, Drop)]
+pub enum Answer {
+    /// The command words are refused, with the number of the fault.
+    WordsRefused {
+        fault: u8,
+    },
+    /// The job is refused, at this line and with the number of the fault. The line is 0 where the fault is none of a line.
+    JobRefused {
+        line: u32,
+        fault: u8,
+    },
+    /// The crystal of a job in this space, and what its sessions were told; no graph where there are more vertices than
+    /// cells.
+    Crystal {
+        space: Space,
+        told: Vec<Replies>,
+        graph: Option<Whole>,
+    },
+    /// The sample job of this number: its type, how many sessions and commands it has, and its graph, of which the sizes are
+    /// printed; no graph where there are more vertices than cells.
+    Sample {
+        number: u32,
+        cartan: Cartan,
+        sessions: u32,
+        commands: u32,
+        graph: Option<Finished>,
+    },
+    /// The tableaux of a shape, by the codes of their readings; no codes where there are too many.
+    Tableaux {
+        shape: Shape,
+        codes: Option<Codes>,
+    },
+    /// What the comparison of two components of this type came to; no verdict where there are too many pairs.
+    Comparison {
+        cartan: Cartan,
+        verdict: Option<Verdict>,
+    },
+}

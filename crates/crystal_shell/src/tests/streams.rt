@@ -1,0 +1,102 @@
+//! Jobs that are cut off, streams that fail, and a statistic that wants memory.
+
+use super::statistics::{Counts, stubborn_status};
+use super::{A2, ROOM, strings};
+use crate::top::run;
+use crystal_streams::{MemorySink, MemorySource, OpenGate};
+use std::alloc::Global;
+use std::test::Fail;
+use std::thread::Threads;
+
+/// The job of the documented text, of 41 bytes.
+const JOB: &str = "crystal-job 1\ntype A 2\nshape 2 1\ncells 8\n";
+
+/// The status and the output of `grow 2` where the job is cut to so many bytes, a read gives at most 8 bytes and a write
+/// takes at most 16, and where the reads and writes of these numbers fail.
+fn cut<T: Threads + Sync>(
+    rt: &T,
+    alloc: Global,
+    bytes: usize,
+    read: u64,
+    write: u64,
+) -> Result<(u8, Vec<u8>), Fail> {
+    let words = strings(alloc, &["grow", "2"])?;
+    let input = JOB.as_bytes()[..bytes.min(JOB.len())].to_vec(alloc)?;
+    let mut source = MemorySource::new(input, [read].to_vec(alloc)?, 8);
+    let mut sink = MemorySink::new(alloc, ROOM, [write].to_vec(alloc)?, 16)?;
+    let outcome = run(
+        rt,
+        alloc,
+        words.as_slice(),
+        &mut source,
+        &mut sink,
+        Vec::new(alloc),
+        &OpenGate,
+    );
+    Ok((outcome.status, sink.bytes().to_vec(alloc)?))
+}
+
+/// No read and no write has this number.
+const NEVER: u64 = 1_000_000;
+
+/// The text of a job that is refused at this line for this fault.
+const HEADER: &str = "refused job line 1 fault 2\n";
+
+const CUT_HEADER: &str = "refused job line 1 fault 1\n";
+
+const NO_TYPE: &str = "refused job line 2 fault 12\n";
+
+const CUT_TYPE: &str = "refused job line 2 fault 1\n";
+
+const NO_SPACE: &str = "refused job line 3 fault 12\n";
+
+const CUT_SPACE: &str = "refused job line 3 fault 1\n";
+
+const CUT_CELLS: &str = "refused job line 4 fault 1\n";
+
+#[test]
+fn streams(rt: HostRuntime) -> Result<(), Fail> {
+    let alloc = rt.alloc();
+    // The job cut to so many bytes, from the first number to the second: the status and the text.
+    for (from, to, status, text) in [
+        (0, 0, 2, HEADER),
+        (1, 13, 2, CUT_HEADER),
+        (14, 14, 2, NO_TYPE),
+        (15, 22, 2, CUT_TYPE),
+        (23, 23, 2, NO_SPACE),
+        (24, 32, 2, CUT_SPACE),
+        (33, 33, 0, A2),
+        (34, 40, 2, CUT_CELLS),
+        (41, 41, 0, A2),
+    ] {
+        for bytes in from..=to {
+            let (ended, output) = cut(&rt, alloc, bytes, NEVER, NEVER)?;
+            assert_eq!(rt; ended, status);
+            assert_eq!(rt; output.as_slice(), text.as_bytes());
+        }
+    }
+    // The honest run reads seven times: six times some bytes, and once none.
+    for number in 1..=7 {
+        let (ended, output) = cut(&rt, alloc, 41, number, NEVER)?;
+        assert_eq!(rt; ended, 4);
+        assert_eq!(rt; output.len(), 0);
+    }
+    // It writes 14 times, and each write but the last takes 16 bytes.
+    let mut taken = 0_usize;
+    for number in 1..=14 {
+        let (ended, output) = cut(&rt, alloc, 41, NEVER, number)?;
+        assert_eq!(rt; ended, 5);
+        assert_eq!(rt; output.len(), taken);
+        assert!(rt; A2.as_bytes().starts_with(output.as_slice()));
+        taken = taken.wrapping_add(16);
+    }
+    let (ended, _) = cut(&rt, alloc, 41, 8, 15)?;
+    assert_eq!(rt; ended, 0);
+    // A statistic that wants memory at its third item.
+    let (counted, stubborn) = (Counts::new(alloc)?, Counts::new(alloc)?);
+    let (ended, output) = stubborn_status(&rt, alloc, JOB, &counted, &stubborn)?;
+    assert_eq!(rt; ended, 6);
+    assert_eq!(rt; output.len(), 0);
+    assert!(rt; counted.get().1 == 1 && stubborn.get() == (2, 1));
+    Ok(())
+}
