@@ -1,7 +1,8 @@
 #!/usr/bin/env bash
 # Times growth on the shared table (crates/growth_bench), by one grower and by four on threads of their own, beside the
 # growth of the yardstick (bench/yardstick.rs, plain Rust, one thread, a private table): the jobs c4 and d5 of bench/jobs.
-# From each time of the shared table that of a run is taken which makes the table and grows nothing. Prints the least of
+# The shared table has the memory settings of `crystal`, the yardstick runs as it is. From each time of the shared table
+# that of a run is taken which makes the table and grows nothing. Prints the least of
 # several runs: processor time, user and system, with the ratio to the yardstick, and wall time, with how much faster
 # four growers are than one. `bare` is the wall time of the steps alone that write the finished graph into such a table, in
 # plain Rust on one thread, without an operator or a second look-up (bare_steps in the yardstick).
@@ -14,14 +15,15 @@ command -v rustc >/dev/null || { echo "rustc is not installed: nothing is timed"
 mkdir -p bench/out
 rustc --edition 2021 -C opt-level=3 -o bench/out/yardstick bench/yardstick.rs || exit 1
 (cd crates/growth_bench && rt run > /dev/null) || exit 1
-python3 - "$runs" <<'PY'
-import resource, subprocess, sys, time
+python3 - "$runs" "$(eval "$(grep '^memory' crystal)"; echo "$memory")" <<'PY'
+import os, resource, subprocess, sys, time
 from pathlib import Path
 
 runs = int(sys.argv[1])
 commands = {"yardstick": ["bench/out/yardstick", "growth"]}
 for growers in ("0", "1", "4"):
     commands[growers] = ["crates/growth_bench/out/growth_bench", growers]
+settings = {"crates/growth_bench/out/growth_bench": os.environ | {"GLIBC_TUNABLES": sys.argv[2]}}
 
 
 def processor():
@@ -32,7 +34,8 @@ def processor():
 def measured(command, text):
     """Processor and wall time of a run in ms, and what it printed."""
     begin, before = time.perf_counter(), processor()
-    said = subprocess.run(command, input=text, capture_output=True, check=True).stdout.decode().strip()
+    ran = subprocess.run(command, input=text, capture_output=True, check=True, env=settings.get(command[0]))
+    said = ran.stdout.decode().strip()
     return (processor() - before) * 1e3, (time.perf_counter() - begin) * 1e3, said
 
 

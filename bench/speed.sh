@@ -2,6 +2,9 @@
 # Times the program beside the yardstick (bench/yardstick.rs, plain Rust) on the same jobs in one run: CPU time, user and
 # system, the least of several runs of each. Prints their ratio and the time a vertex, for the jobs of bench/jobs, with
 # statistics, with sessions and in Kashiwara's order, and checks that both print the same bytes but for replies of sessions.
+# Then the time of the text alone, which is that of a run without that of one that tells only the sizes of the same graph,
+# and the largest resident memory on the largest job, by vertex. The program runs as `crystal` runs it, with what the C
+# library is told of memory; the yardstick runs as it is.
 #
 # Usage: bench/speed.sh [RUNS]    (5 runs where none is given)
 set -u
@@ -11,12 +14,14 @@ command -v rustc >/dev/null || { echo "rustc is not installed: nothing is timed"
 mkdir -p bench/out
 rustc --edition 2021 -C opt-level=3 -o bench/out/yardstick bench/yardstick.rs || exit 1
 ./crystal grow 1 < jobs/first.job > /dev/null || exit 1
-python3 - "$runs" <<'PY'
-import resource, subprocess, sys
+python3 - "$runs" "$(eval "$(grep '^memory' crystal)"; echo "$memory")" <<'PY'
+import os, subprocess, sys
 from pathlib import Path
 
 runs = int(sys.argv[1])
-commands = {"yardstick": ["bench/out/yardstick"], "program": ["crates/crystal_shell/out/crystal_shell", "grow", "1"]}
+program = "crates/crystal_shell/out/crystal_shell"
+settings = {program: os.environ | {"GLIBC_TUNABLES": sys.argv[2]}}
+commands = {"yardstick": ["bench/out/yardstick"], "program": [program, "grow", "1"]}
 statistics = ["character", "strings", "ends"]
 
 
@@ -48,12 +53,44 @@ cases += [("c4, statistics", job("c4"), statistics), ("c4, sessions", with_sessi
           ("c4, kashiwara", in_the_second_order(job("c4")), [])]
 
 
-def measured(command, text):
+def ran(command, text, out):
+    """What a run used, and what it printed to a pipe."""
+    process = subprocess.Popen(command, stdin=subprocess.PIPE, stdout=out, env=settings.get(command[0]))
+    process.stdin.write(text.encode())
+    process.stdin.close()
+    said = process.stdout.read() if process.stdout else b""
+    _, status, used = os.wait4(process.pid, 0)
+    process.returncode = os.waitstatus_to_exitcode(status)
+    return used, said
+
+
+def measured(command, text, out=subprocess.PIPE):
     """The CPU time of a run, and what it printed."""
-    before = resource.getrusage(resource.RUSAGE_CHILDREN)
-    said = subprocess.run(command, input=text.encode(), capture_output=True).stdout
-    after = resource.getrusage(resource.RUSAGE_CHILDREN)
-    return after.ru_utime + after.ru_stime - before.ru_utime - before.ru_stime, said
+    used, said = ran(command, text, out)
+    return used.ru_utime + used.ru_stime, said
+
+
+def bytes_a_vertex(who):
+    """The largest resident memory of a run on the largest job. A process begins with what its parent held, so it is measured
+    before this one holds much."""
+    used, _ = ran(commands[who], job("d5"), subprocess.DEVNULL)
+    return used.ru_maxrss * 1024 / 2**20
+
+
+def text_times(text):
+    """The CPU times of the text alone: that of a run without that of one that tells only the sizes of the same graph."""
+    tries = {
+        ("yardstick", "whole"): (commands["yardstick"], text),
+        ("yardstick", "sizes"): (commands["yardstick"] + ["sizes"], text),
+        ("program", "whole"): (commands["program"], text),
+        ("program", "sizes"): (commands["program"][:1] + ["sample", "1", "2"], ""),
+    }
+    best = {}
+    for _ in range(4 * runs):
+        for name, tried in tries.items():
+            took, _ = measured(*tried, subprocess.DEVNULL)
+            best[name] = min(best.get(name, took), took)
+    return [best[who, "whole"] - best[who, "sizes"] for who in commands]
 
 
 def graph_of(said):
@@ -61,6 +98,7 @@ def graph_of(said):
     return said.partition(b"session 1\n")[0] + said[said.find(b"graph ") :]
 
 
+memory = {who: bytes_a_vertex(who) for who in commands}
 print(f"{'job':15} {'vertices':>9} {'yardstick ms':>13} {'program ms':>11} {'ratio':>6} {'ns a vertex':>12}")
 worst, differ = 0.0, False
 for name, text, words in cases:
@@ -78,5 +116,9 @@ for name, text, words in cases:
     print(f"{name:15} {vertices:9} {best['yardstick'] * 1e3:13.1f} {best['program'] * 1e3:11.1f} {ratio:6.2f} "
           f"{best['program'] * 1e9 / max(1, vertices):12.0f} {'' if same else 'TEXTS DIFFER'}", flush=True)
 print(f"worst ratio {worst:.2f}")
+printer = [sys.executable, "tests/peers/sample_peer.py", "text", "2"]
+plain, proved = text_times(subprocess.run(printer, capture_output=True, check=True).stdout.decode())
+print(f"text of c4 alone: yardstick {plain * 1e3:.1f} ms, program {proved * 1e3:.1f} ms, ratio {proved / plain:.2f}")
+print(f"largest resident memory on d5: yardstick {memory['yardstick']:.0f}, program {memory['program']:.0f} bytes a vertex")
 sys.exit(1 if differ else 0)
 PY

@@ -3,6 +3,7 @@
 //!
 //!     rustc -C opt-level=3 -o yardstick yardstick.rs
 //!     ./yardstick [STATISTIC..] < JOB
+//!     ./yardstick sizes < JOB             the answer with the sizes of the graph alone, and no line for a vertex
 //!     ./yardstick growth < JOB            grows the graph of the starts and prints how that ended, and no more
 //!     ./yardstick steps < JOB             grows it, takes the steps of the shared table for it, and prints their microseconds
 //!
@@ -555,8 +556,7 @@ fn push_weight(out: &mut Vec<u8>, space: &Space, weight: &[i8; 16]) {
     }
 }
 
-fn push_graph(out: &mut Vec<u8>, space: &Space, graph: &Graph) {
-    out.extend_from_slice(format!("graph {} {}\n", graph.codes.len(), graph.arrows).as_bytes());
+fn push_vertices(out: &mut Vec<u8>, space: &Space, graph: &Graph) {
     out.reserve(graph.codes.len() * 80);
     for (rank, &code) in graph.codes.iter().enumerate() {
         let digits = space.digits(code);
@@ -793,8 +793,11 @@ fn answer(job: &Job, statistics: &[String]) -> (Vec<u8>, i32) {
     let graph = grown(space, &roots, job.cells);
     match &graph {
         Some(graph) => {
-            push_graph(&mut out, space, graph);
-            statistics.iter().for_each(|name| push_statistic(&mut out, space, graph, name));
+            out.extend_from_slice(format!("graph {} {}\n", graph.codes.len(), graph.arrows).as_bytes());
+            if statistics != ["sizes"] {
+                push_vertices(&mut out, space, graph);
+                statistics.iter().for_each(|name| push_statistic(&mut out, space, graph, name));
+            }
         }
         None => out.extend_from_slice(b"full\n"),
     }
