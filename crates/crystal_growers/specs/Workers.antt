@@ -10,7 +10,7 @@ use Rattle.crystal_growers.specs.declared.work.Stopped.{Stopped}
 use Rattle.crystal_growers.specs.Work.{IsWaiting, HasSpent}
 use Rattle.crystal_growers.specs.Shifts.{HasWorked, HasOffered, HasRun, IsWorking}
 
--- why a grower stopped: its own deque was empty after all that it pushed, and nothing waits; a word found no cell; or for want of memory, of which
+-- why a grower stopped: it found its own deque empty, and nothing waits; a word found no cell; or for want of memory, of which
 -- nothing is said
 abbrev pub HasStopped : GraphValue → SeatValue → BenchValue → Ending → Type 0
 HasStopped g s b Done = IsWaiting g [] s × FoundOwnEmpty b

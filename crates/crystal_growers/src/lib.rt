@@ -16,10 +16,10 @@
 //! the end all seats join, all passes come home, and what is left in the deques is drawn too (`collecting`, `sweeping`).
 //! Where it answers `Closed`, every given cell and every cell that the seat owes has all its arrows, and of the unpaid
 //! cells just those are left that were not given. It answers `Full` only where one of its own events says that a word
-//! found no cell. With either answer all stake is back, so that all growers' seats and all parcels have come back: the seat
-//! keeps their numbers, and it owes still what it owed. That stake is back rests on what parcel_deques promises: each
-//! parcel that was loaded is taken once. After want of memory part of the stake may be lost; the numbers kept before are
-//! kept. That growers run side by side, and that parcels are stolen, is tested alone.
+//! found no cell. With either answer all stake is back, so that all growers' seats and all parcels have come back; the
+//! seat keeps the number of each grower, and it owes still what it owed. That stake is back rests on what parcel_deques
+//! promises: each parcel that was loaded is taken once. After want of memory part of the stake may be lost; the numbers
+//! kept before are kept. That growers run side by side, and that parcels are stolen, is tested alone.
 //!
 //! `finished` makes the finished graph of a closed one. Its codes are exactly those of the vertices.
 //!

@@ -68,7 +68,8 @@ HasAll b = (k : ℕ) → k < length b.call → Contains b.home k
 abbrev pub FoundEmpty : ℕ → List Slip → Type 0
 FoundEmpty k slips = (v : Hand) × (v.deque ≡ k) × (v.taken ≡ slips) × WasEmpty v
 
--- its own deque was empty at a moment at which it had pushed and taken just these: all that it pushed was taken by then
+-- there is a lawful state of its own deque with nothing in it, in which it pushed and took just these, and other passes the
+-- rest of what it pushed
 abbrev pub FoundOwnEmpty : BenchValue → Type 0
 FoundOwnEmpty b = (v : Hand) × (v.deque ≡ b.number) × (v.pushes ≡ true) × (v.pushed ≡ b.pushed) × (v.taken ≡ owned_by b.number b.taken) × WasEmpty v
 

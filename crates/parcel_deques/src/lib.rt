@@ -4,12 +4,13 @@
 //! work: the owner's end of one deque, and a thief's end with a pass for each other. Each parcel has a slip, which says who
 //! loaded it, at which place, with which cells and which stake; contracts speak of slips alone.
 //!
-//! Between any two steps the slips that were taken from a deque are the first of those that were pushed there, in order,
-//! and each of them is noted by just one pass (the rule of a deque). What callers are promised of it: each parcel that a
-//! bench gives is noted in its `taken`; a parcel of its own deque has the bench's number in its tag, a stolen one that of
-//! another bench; where a bench finds its own deque empty (`drain`) all that it pushed was taken by then, and where it also
-//! holds the shares of all others in it (`take_over`, `gather`) it has noted just what was pushed there, each slip once:
-//! nothing was lost, and nothing was given twice. No call waits for another.
+//! Between any two steps the slips that were taken from a deque are the first of those that were pushed there, in
+//! order, and each of them is noted by just one pass (the rule of a deque). What callers are promised of it: each
+//! parcel that a bench gives is noted in its `taken`; a parcel of its own deque has the bench's number in its tag, a
+//! stolen one that of another bench; and a bench that holds the shares of all others in its deque (`take_over`,
+//! `gather`) and finds it empty (`drain`) has noted just what was pushed there, each slip once: nothing was lost, and
+//! nothing was given twice. To a bench without all shares `drain` tells less: some lawful empty state of the deque goes
+//! with what it pushed and noted. No call waits for another.
 //!
 //! Where the clauses may surprise:
 //! - The shares of all passes of a deque are together 16, however many benches there are: a bench's own end begins with
