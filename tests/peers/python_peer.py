@@ -26,8 +26,8 @@ def statistic_lines(crystal, vertices):
     lines += [f"{coordinates(weight)} | {times[weight]}" for weight in sorted(times, reverse=True)]
     lines.append("statistic strings")
     for i in indices:
-        tops = [crystal.strings(word, i)[1] for word in vertices if crystal.strings(word, i)[0] == 0]
-        lines.append(f"{i} | {len(tops)} | {max(tops, default=0)}")
+        heads = [crystal.strings(word, i)[1] for word in vertices if crystal.strings(word, i)[0] == 0]
+        lines.append(f"{i} | {len(heads)} | {max(heads, default=0)}")
     ends = sum(all(0 in crystal.strings(word, i) for i in indices) for word in vertices)
     return lines + ["statistic ends", str(ends)]
 

@@ -25,8 +25,6 @@ mod pages;
 mod printing;
 mod samples;
 mod sessions;
-#[cfg(test)]
-mod tests;
 
 pub use answers::{Answer, AskAnswer, Report, Whole};
 pub use pages::Page;

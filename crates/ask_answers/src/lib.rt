@@ -15,8 +15,6 @@ mod asks;
 mod laws;
 mod reflections;
 mod subsets;
-#[cfg(test)]
-mod tests;
 mod tops;
 
 pub use asks::answers;

@@ -20,8 +20,6 @@ mod lines;
 mod lowering;
 mod numbering;
 mod tables;
-#[cfg(test)]
-mod tests;
 mod turning;
 
 pub use finished::Finished;

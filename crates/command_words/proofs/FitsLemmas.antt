@@ -14,9 +14,8 @@ use Rattle.command_words.specs.declared.settings.Settings.TheVariants.{Match}
 use Rattle.command_words.specs.declared.settings.Relabelling.TheVariants.{Same, Star}
 use Rattle.crystal_cartan.specs.Types.{CartanType, IsCartan}
 use Rattle.crystal_cartan.specs.declared.types.Kind.TheVariants.{A}
-use Rattle.tensor_words.specs.declared.spaces.Order.TheVariants.{Standard}
 use Rattle.command_words.proofs.ShapeLemmas.{shape_made}
-use Rattle.tableau_reading.specs.Shapes.{IsShape, ShapeType, shape_of}
+use Rattle.tableau_reading.specs.Shapes.{ShapeType, shape_of}
 use Rattle.tableau_reading.specs.declared.shapes.ShapeFault.{ShapeFault}
 
 -- ---- one word

@@ -15,8 +15,6 @@ mod number;
 mod reading;
 mod settings;
 mod statistics;
-#[cfg(test)]
-mod tests;
 
 pub use fault::WordsFault;
 pub use reading::read_words;

@@ -12,8 +12,6 @@
 #![tactic(auto)]
 
 mod roots;
-#[cfg(test)]
-mod tests;
 mod types;
 mod weights;
 

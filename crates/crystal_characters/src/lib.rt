@@ -25,8 +25,6 @@ mod rules;
 mod statistics;
 mod string_tally;
 mod tallies;
-#[cfg(test)]
-mod tests;
 mod weights;
 
 pub use character_tally::CharacterTally;

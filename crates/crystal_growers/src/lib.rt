@@ -36,8 +36,6 @@ mod drawing;
 mod finishing;
 mod growing;
 mod growth;
-#[cfg(test)]
-mod growth_tests;
 mod hints;
 mod offering;
 mod rows;
@@ -45,8 +43,6 @@ mod shared;
 mod shared_calls;
 mod starting;
 mod sweeping;
-#[cfg(test)]
-mod tests;
 mod threads;
 mod work;
 

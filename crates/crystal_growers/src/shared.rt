@@ -118,7 +118,8 @@ impl<'a> SharedDesk<'a> {
         (self.seat, self.added, self.hints)
     }
 
-    pub(crate) fn world(&self) -> &World
+    /// The world in which the graph grows.
+    pub fn world(&self) -> &World
         ensures value { result.now ≡ self.now.seat.view.world }
         ensures known { IsKnown self.now.seat.view }
     {

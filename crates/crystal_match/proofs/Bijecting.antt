@@ -14,7 +14,7 @@ use Rattle.tensor_words.specs.Operators.{IsArrow, op}
 use Rattle.tensor_words.specs.Reach.{IsPath, walk, IsReachedFrom}
 use Rattle.crystal_match.specs.declared.search.Origin.{Origin}
 use Rattle.crystal_match.specs.declared.search.Search.{Search}
-use Rattle.crystal_match.specs.declared.search.Ending.TheVariants.{Closed, Told, TooMany}
+use Rattle.crystal_match.specs.declared.search.SearchEnd.TheVariants.{Closed, Told, TooMany}
 use Rattle.crystal_match.specs.Relabelling.{relabelled}
 use Rattle.crystal_match.specs.Listings.{pair_at, pair_eq, firsts, seconds}
 use Rattle.crystal_match.specs.Telling.{PointedType, IsPointed, IsFirstTelling}

@@ -6,8 +6,8 @@ use Rattle.tensor_words.specs.Operators.{IsArrow, op}
 use Rattle.tensor_words.specs.Reach.{IsPath}
 use Rattle.crystal_match.specs.declared.search.Origin.{Origin}
 use Rattle.crystal_match.specs.declared.search.Search.{Search}
-use Rattle.crystal_match.specs.declared.search.Ending.{Ending}
-use Rattle.crystal_match.specs.declared.search.Ending.TheVariants.{Closed, Told, TooMany}
+use Rattle.crystal_match.specs.declared.search.SearchEnd.{SearchEnd}
+use Rattle.crystal_match.specs.declared.search.SearchEnd.TheVariants.{Closed, Told, TooMany}
 use Rattle.crystal_match.specs.Relabelling.{relabelled}
 use Rattle.crystal_match.specs.Listings.{pair_at, pair_eq, no_arrow}
 use Rattle.crystal_match.specs.Telling.{PointedType, first_end, second_end, AreApart}
@@ -110,7 +110,7 @@ pub record IsTold (m : PointedType) (a : Arrow) (s : Search) : Type 0 where
   pub apart : AreApart m (op m.space a (pair_at s.found s.at).0) (op m.space (relabelled m.relabel a) (pair_at s.found s.at).1)
 
 -- how a search ends
-abbrev pub IsEnded : PointedType → ℕ → Ending → Search → Type 0
+abbrev pub IsEnded : PointedType → ℕ → SearchEnd → Search → Type 0
 IsEnded m limit Closed s = IsSearching m 0 s × (s.at ≡ length s.found) × (length s.found ≤ limit) × IsDistinct pair_eq s.found
 IsEnded m limit (Told a) s = IsTold m a s × (s.end ≤ limit)
 IsEnded m limit TooMany s = IsSearching m 0 s × (s.at ≡ s.end) × (s.at < length s.found) × (limit < length s.found) × IsDistinct pair_eq s.found

@@ -7,7 +7,7 @@ ghost use Rattle.crystal_match.specs.Matching.{IsVerdict, PairsOutnumber};
 use crate::both::Both;
 use crate::listings::{Arrows, Pairs};
 use crate::relabelling::Relabel;
-use crate::search::{Ending, Search};
+use crate::search::{Search, SearchEnd};
 use std::alloc::{AllocError, Global};
 use tensor_words::Space;
 use thiserror::Error;
@@ -71,12 +71,12 @@ fn compared(
     let mut both = Both::new(alloc, space, marks, relabel)?;
     let mut search = Search::new(alloc, &both)?;
     match search.run(&mut both, limit)? {
-        Ending::Closed => Ok(Some(Verdict::Same {
+        SearchEnd::Closed => Ok(Some(Verdict::Same {
             pairs: search.pairs(alloc)?,
         })),
-        Ending::Told { arrow } => Ok(Some(Verdict::Differs {
+        SearchEnd::Told { arrow } => Ok(Some(Verdict::Differs {
             walk: search.walk(alloc, arrow)?,
         })),
-        Ending::TooMany => Ok(None),
+        SearchEnd::TooMany => Ok(None),
     }
 }

@@ -10,11 +10,11 @@ use std::marker::Model;
 
 /// Different pairs of codes in the order in which they were found.
 #[derive(Drop)]
-pub(crate) struct Found {
+pub(crate) struct FoundPairs {
     pairs: IndexSet<(u64, u64)>,
 }
 
-impl Model for Found {
+impl Model for FoundPairs {
     ghost use Rattle.std.specs.Prelude.{List, ℕ};
     ghost use Rattle.std.specs.List.{IsDistinct};
     ghost use Rattle.crystal_match.specs.Listings.{pair_eq};
@@ -26,11 +26,11 @@ impl Model for Found {
     ghost invariant = { λ f. IsDistinct pair_eq f.pairs.keys };
 }
 
-impl Found {
-    pub(crate) fn new(alloc: Global) -> Found
+impl FoundPairs {
+    pub(crate) fn new(alloc: Global) -> FoundPairs
         ensures { result ≡ [] }
     {
-        Found {
+        FoundPairs {
             pairs: IndexSet::new(alloc),
         }
     }

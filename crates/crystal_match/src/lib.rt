@@ -19,8 +19,6 @@ mod found;
 mod listings;
 mod relabelling;
 mod search;
-#[cfg(test)]
-mod tests;
 
 pub use comparing::{MatchFault, Verdict, compare};
 pub use listings::{Arrows, Pairs};

@@ -10,7 +10,7 @@ ghost use Rattle.signature_rule.specs.ArrowOrder.{arrow_place};
 ghost use Rattle.crystal_match.specs.Search.{IsSearching, IsTold, IsEnded, Follows, HasWalks, AreWalks, walk_at};
 
 use crate::both::{Both, Ends};
-use crate::found::Found;
+use crate::found::FoundPairs;
 use crate::listings::{Arrows, Pairs};
 use crystal_cartan::Arrow;
 use signature_rule::arrow_at;
@@ -27,7 +27,7 @@ pub(crate) struct Origin {
 /// one length, and those behind by lists with one arrow more.
 #[derive(Drop)]
 pub(crate) struct Search {
-    pub(crate) found: Found,
+    pub(crate) found: FoundPairs,
     /// The origin of each pair but the first.
     pub(crate) origins: Vec<Origin>,
     pub(crate) at: usize,
@@ -36,7 +36,7 @@ pub(crate) struct Search {
 
 /// How a search ends.
 #[derive(Clone, Copy, Debug)]
-pub(crate) enum Ending {
+pub(crate) enum SearchEnd {
     /// No list of arrows tells the marks apart.
     Closed,
     /// The arrow, behind the list that reaches the pair at `at` first, tells them apart.
@@ -52,7 +52,7 @@ impl Search {
         ensures end { IfOk result (λ s. s.end ≡ 0) }
         ensures pointed { OnOk result (IsPointed both.now) }
     {
-        let mut found = Found::new(alloc);
+        let mut found = FoundPairs::new(alloc);
         found.add(both.marks())?;
         Ok(Search {
             found,
@@ -63,7 +63,7 @@ impl Search {
     }
 
     /// Searches to the end.
-    pub(crate) fn run(&mut self, both: &mut Both, limit: u32) -> Result<Ending, AllocError>
+    pub(crate) fn run(&mut self, both: &mut Both, limit: u32) -> Result<SearchEnd, AllocError>
         requires begun { IsSearching both.old 0 self.old }
         requires end { self.old.end ≡ 0 }
         ensures { IfOk result (λ ending. IsEnded both.old limit ending self.new) }
@@ -71,15 +71,15 @@ impl Search {
         'levels: while self.at < self.found.len() {
             if self.at == self.end {
                 if self.found.len() > limit as usize {
-                    return Ok(Ending::TooMany);
+                    return Ok(SearchEnd::TooMany);
                 }
                 self.end = self.found.len();
             }
             if let Some(arrow) = self.expand(both)? {
-                return Ok(Ending::Told { arrow });
+                return Ok(SearchEnd::Told { arrow });
             }
         }
-        Ok(Ending::Closed)
+        Ok(SearchEnd::Closed)
     }
 
     /// Follows the arrows of the pair at `at`, up to the first that tells the marks apart.

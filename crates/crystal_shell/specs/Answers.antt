@@ -110,13 +110,13 @@ pub data Compares (r : Relabelling) : Input → Status → List ℕ → Type 0 w
 -- ---- all of them
 
 -- the status, the history, the held graph and the text that heard words and an input call for
-pub data Calls (reporters : List Reporter) (input : List ℕ) : Heard → Status → List Event → Option Held → List ℕ → Type 0 where
-  call_refused : (fault : ℕ) → Calls reporters input (heard.Refused fault) WordsRefused [] None (words_refusal fault)
+pub data CallsFor (reporters : List Reporter) (input : List ℕ) : Heard → Status → List Event → Option Held → List ℕ → Type 0 where
+  call_refused : (fault : ℕ) → CallsFor reporters input (heard.Refused fault) WordsRefused [] None (words_refusal fault)
   call_grow : (growers : ℕ) (places : List ℕ) (status : Status) (front : List Event) (held : Option Held) (text : List ℕ)
-      → Grows reporters places (judged_input input) status front held text → Calls reporters input (heard.Grow growers places) status front held text
+      → Grows reporters places (judged_input input) status front held text → CallsFor reporters input (heard.Grow growers places) status front held text
   call_sample : (growers number : ℕ) (status : Status) (front : List Event) (held : Option Held) (text : List ℕ)
-      → Samples number status front held text → Calls reporters input (heard.Sample growers number) status front held text
+      → Samples number status front held text → CallsFor reporters input (heard.Sample growers number) status front held text
   call_census : (shape : ShapeType) (status : Status) (text : List ℕ) → Counts shape status text
-      → Calls reporters input (heard.Census shape) status [] None text
+      → CallsFor reporters input (heard.Census shape) status [] None text
   call_match : (r : Relabelling) (status : Status) (text : List ℕ) → Compares r (judged_input input) status text
-      → Calls reporters input (heard.Match r) status [] None text
+      → CallsFor reporters input (heard.Match r) status [] None text

@@ -4,7 +4,7 @@ use Rattle.graph_history.specs.declared.event.Act.TheVariants.{Spent}
 use Rattle.graph_history.specs.declared.event.Event.{Event}
 use Rattle.graph_runs.specs.declared.run.Held.{Held}
 use Rattle.crystal_shell.specs.Statistics.{Reporter}
-use Rattle.crystal_shell.specs.Answers.{Calls}
+use Rattle.crystal_shell.specs.Answers.{CallsFor}
 use Rattle.crystal_shell.specs.declared.hearing.Heard.{Heard}
 use Rattle.crystal_shell.specs.declared.outcomes.Status.{Status}
 use Rattle.crystal_shell.specs.declared.outcomes.Status.TheVariants.{Done}
@@ -13,11 +13,11 @@ use Rattle.crystal_shell.specs.declared.outcomes.Status.TheVariants.{Done}
 abbrev pub AnswersAreDetermined : Type 0
 AnswersAreDetermined =
     (reporters : List Reporter) (input : List ℕ) (heard : Heard) (status status' : Status) (front front' : List Event) (held held' : Option Held) (text text' : List ℕ) →
-    Calls reporters input heard status front held text → Calls reporters input heard status' front' held' text' →
+    CallsFor reporters input heard status front held text → CallsFor reporters input heard status' front' held' text' →
     (status ≡ status') × (front ≡ front' → text ≡ text')
 
 -- under the status 0 every word that was asked for found a cell: no event of the history is a `Spent`
 abbrev pub AnsweredIsUnspent : Type 0
 AnsweredIsUnspent =
     (reporters : List Reporter) (input : List ℕ) (heard : Heard) (front : List Event) (held : Option Held) (text : List ℕ) (n x : ℕ) →
-    Calls reporters input heard Done front held text → Contains front (record { caller = n; act = Spent x }) → ⊥
+    CallsFor reporters input heard Done front held text → Contains front (record { caller = n; act = Spent x }) → ⊥

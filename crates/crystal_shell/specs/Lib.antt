@@ -3,5 +3,5 @@ pub mod Heard
 pub mod Inputs
 pub mod Answers
 pub mod Runs
-pub mod Stops
+pub mod NoAnswers
 pub mod Laws

@@ -8,7 +8,7 @@ use Rattle.graph_runs.specs.declared.run.Held.{Held}
 use Rattle.crystal_shell.specs.Statistics.{Reporter, names_of}
 use Rattle.crystal_shell.specs.Heard.{heard_in, asks_for_job}
 use Rattle.crystal_shell.specs.Inputs.{job_limit, IsInput, ReadsJob}
-use Rattle.crystal_shell.specs.Answers.{Calls, status_number}
+use Rattle.crystal_shell.specs.Answers.{CallsFor, status_number}
 use Rattle.crystal_shell.specs.declared.outcomes.Outcome.{Outcome}
 use Rattle.crystal_shell.specs.declared.outcomes.Status.{Status}
 
@@ -17,7 +17,7 @@ use Rattle.crystal_shell.specs.declared.outcomes.Status.{Status}
 pub record Called (reporters : List Reporter) (words : List (List ℕ)) (left : Option (List ℕ)) (status : Status) (front : List Event) (held : Option Held) (text : List ℕ) : Type 0 where
   pub input : List ℕ
   pub had : IsInput left input
-  pub calls : Calls reporters input (heard_in words (names_of reporters)) status front held text
+  pub calls : CallsFor reporters input (heard_in words (names_of reporters)) status front held text
 
 -- what was read of a source, of which contracts see what it has left and how many of its reads failed, in a call that may
 -- have come to nothing by a fault of a read

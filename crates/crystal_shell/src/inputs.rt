@@ -6,7 +6,7 @@ ghost use Rattle.job_text.specs.Judge.{judge};
 ghost use Rattle.job_text.specs.Outcomes.{GivesAtLine};
 ghost use Rattle.crystal_shell.specs.Inputs.{IsInput, IsLawful, ReadsJob, by_number, job_limit, judged_input};
 
-use crate::outcomes::Stop;
+use crate::outcomes::NoAnswer;
 use crystal_streams::{NoMemory, ReadEnd, Source, read_all};
 use job_text::{Job, JobFault, read_job};
 use std::alloc::Global;
@@ -27,13 +27,13 @@ pub(crate) enum Input {
 }
 
 /// What the input of the source says.
-pub(crate) fn read_input<R: Source>(alloc: Global, source: &mut R) -> Result<Input, Stop>
+pub(crate) fn read_input<R: Source>(alloc: Global, source: &mut R) -> Result<Input, NoAnswer>
     ensures judged { IfOk result (λ found. (input : List ℕ) × IsInput (R.left source.old) input × (found ≡ judged_input input)) }
     ensures lawful { IfOk result IsLawful }
     ensures taken { OnOk result (ReadsJob (R.left source.old) (R.left source.new)) }
     ensures most { TakesAtMost (job_limit + 1) (R.left source.old) (R.left source.new) }
     ensures later { R.faults source.old ≤ R.faults source.new }
-    ensures read_fault { IsErrOf result Stop.ReadFault → Rose (R.faults source.old) (R.faults source.new) }
+    ensures read_fault { IsErrOf result NoAnswer.ReadFault → Rose (R.faults source.old) (R.faults source.new) }
 {
     match read_all(alloc, source, JOB_LIMIT) {
         Ok(bytes) => Ok(read_text(alloc, bytes.as_slice())?),
@@ -41,8 +41,8 @@ pub(crate) fn read_input<R: Source>(alloc: Global, source: &mut R) -> Result<Inp
             line: 0,
             fault: TOO_LONG,
         }),
-        Err(ReadEnd::ReadFault) => Err(Stop::ReadFault),
-        Err(ReadEnd::NoMemory) => Err(Stop::NoMemory),
+        Err(ReadEnd::ReadFault) => Err(NoAnswer::ReadFault),
+        Err(ReadEnd::NoMemory) => Err(NoAnswer::NoMemory),
     }
 }
 

@@ -1,7 +1,7 @@
 //! What a run comes to.
 ghost use Rattle.std.specs.Prelude.{◌≡◌, [], None};
 ghost use Rattle.crystal_shell.specs.Answers.{status_number};
-ghost use Rattle.crystal_shell.specs.Stops.{stop_number};
+ghost use Rattle.crystal_shell.specs.NoAnswers.{no_answer_number};
 
 use answer_text::Answer;
 use crystal_streams::NoMemory;
@@ -72,32 +72,32 @@ impl Answered {
 
 /// Why there is no answer.
 #[derive(Clone, Copy, Debug, PartialEq, Eq)]
-pub(crate) enum Stop {
+pub(crate) enum NoAnswer {
     /// A read failed.
     ReadFault,
     /// There is no memory.
     NoMemory,
 }
 
-impl Stop {
+impl NoAnswer {
     /// The number with which the program ends.
     pub(crate) fn number(&self) -> u8
-        ensures { result ≡ stop_number self.now }
+        ensures { result ≡ no_answer_number self.now }
     {
         match self {
-            Stop::ReadFault => 4,
-            Stop::NoMemory => 6,
+            NoAnswer::ReadFault => 4,
+            NoAnswer::NoMemory => 6,
         }
     }
 }
 
-impl From<NoMemory> for Stop {
+impl From<NoMemory> for NoAnswer {
     ghost use Rattle.std.specs.Prelude.{◌≡◌};
-    ghost use Rattle.crystal_shell.specs.declared.outcomes.Stop.TheVariants.{NoMemory as NoMemoryStop};
+    ghost use Rattle.crystal_shell.specs.declared.outcomes.NoAnswer.TheVariants.{NoMemory as NoMemoryStop};
 
     ghost from_gives = { λ _ stop. stop ≡ NoMemoryStop };
 
-    fn from(_error: NoMemory) -> Stop {
-        Stop::NoMemory
+    fn from(_error: NoMemory) -> NoAnswer {
+        NoAnswer::NoMemory
     }
 }

@@ -5,7 +5,7 @@ ghost use Rattle.crystal_streams.specs.Faults.{Rose};
 ghost use Rattle.crystal_shell.specs.Statistics.{AreFresh, Reporter};
 ghost use Rattle.answer_text.specs.Answers.{IsPrintableAnswer, answer_bytes};
 ghost use Rattle.crystal_shell.specs.Answers.{status_number};
-ghost use Rattle.crystal_shell.specs.Stops.{stop_number};
+ghost use Rattle.crystal_shell.specs.NoAnswers.{no_answer_number};
 ghost use Rattle.crystal_shell.specs.Runs.{Called, HasRead, IsRun, IsWritten};
 
 use crate::counting::count;
@@ -13,7 +13,7 @@ use crate::growing::grow;
 use crate::hearing::{Heard, hear};
 use crate::inputs::read_input;
 use crate::matching::matched;
-use crate::outcomes::{Answered, Outcome, Stop};
+use crate::outcomes::{Answered, NoAnswer, Outcome};
 use crate::refusals::refused_words;
 use crate::samples::sample;
 use answer_text::{Page, print_answer};
@@ -48,7 +48,7 @@ pub fn run<T: Threads + Sync, R: Source, W: Sink, G: Gate>(
         source.old source.new sink.old sink.new result }
 {
     let Ok(page) = Page::new(alloc) else {
-        return without_answer(Stop::NoMemory);
+        return without_answer(NoAnswer::NoMemory);
     };
     let mut stats = stats;
     match answer(rt, alloc, words, source, &mut stats, gate) {
@@ -58,8 +58,8 @@ pub fn run<T: Threads + Sync, R: Source, W: Sink, G: Gate>(
 }
 
 /// The outcome where there is no answer.
-fn without_answer(stop: Stop) -> Outcome
-    ensures status { result.status ≡ stop_number stop }
+fn without_answer(stop: NoAnswer) -> Outcome
+    ensures status { result.status ≡ no_answer_number stop }
     ensures front { result.front ≡ [] }
     ensures held { result.held ≡ None }
 {
@@ -108,14 +108,14 @@ fn answer<T: Threads + Sync, R: Source, G: Gate>(
     source: &mut R,
     stats: &mut Vec<Box<dyn Statistic>>,
     gate: &G,
-) -> Result<Answered, Stop>
+) -> Result<Answered, NoAnswer>
     requires { AreFresh (λ b. named b) (λ b. fed b) stats.old.items }
     ensures called { let reporters : List Reporter = map (λ b. record { name = named b; reports = reported b }) stats.old.items in
         IfOk result (λ a. Called reporters (map string_bytes words.now) (R.left source.old) a.status a.front a.held (answer_bytes a.answer)) }
     ensures printable { IfOk result (λ a. IsPrintableAnswer a.answer) }
     ensures read { let reporters : List Reporter = map (λ b. record { name = named b; reports = reported b }) stats.old.items in
         HasRead (λ s. R.left s) (λ s. R.faults s) reporters (map string_bytes words.now) source.old source.new
-        (IsOk result) (IsErrOf result Stop.ReadFault) }
+        (IsOk result) (IsErrOf result NoAnswer.ReadFault) }
 {
     let heard = hear(alloc, words, stats.as_slice())?;
     match heard {

@@ -18,8 +18,6 @@ mod lines;
 mod memory;
 mod sinks;
 mod sources;
-#[cfg(test)]
-mod tests;
 mod wholes;
 
 pub use adapters::{InputAdapter, OutputAdapter};

@@ -13,8 +13,6 @@
 
 mod laws;
 mod subsets;
-#[cfg(test)]
-mod tests;
 mod tops;
 
 pub use laws::product_tops_law;

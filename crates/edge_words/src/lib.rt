@@ -8,7 +8,5 @@
 #![tactic(auto)]
 
 mod edges;
-#[cfg(test)]
-mod tests;
 
 pub use edges::{look, set};

@@ -24,8 +24,6 @@ mod laws;
 mod operators;
 mod plain_calls;
 mod plain_desk;
-#[cfg(test)]
-mod tests;
 mod view;
 
 pub use answer::{Added, Draw, Look};

@@ -120,7 +120,8 @@ impl PlainDesk {
         self.journal.front()
     }
 
-    pub(crate) fn world(&self) -> &World
+    /// The world in which the graph grows.
+    pub fn world(&self) -> &World
         ensures value { result.now ≡ self.now.world }
         ensures world { IsWorld self.now.world }
         ensures legal { IsLegal self.now.world self.now.front }

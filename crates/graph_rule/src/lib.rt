@@ -20,8 +20,6 @@ mod plays;
 mod rule;
 mod seat;
 mod steps;
-#[cfg(test)]
-mod tests;
 
 pub use arrows::{claim_edge, load_edge};
 pub use closed::{Closed, settle};

@@ -8,7 +8,7 @@ use Rattle.job_text.specs.declared.commands.Command.{Command}
 use Rattle.session_desk.specs.Replies.{replies}
 use Rattle.session_desk.specs.Sessions.{IsAsked}
 use Rattle.session_desk.specs.Texts.{IsPrintable}
-use Rattle.graph_runs.specs.declared.beside.Growth.{Growth}
+use Rattle.graph_runs.specs.declared.beside.GrownSeat.{GrownSeat}
 use Rattle.graph_runs.specs.declared.seats.Session.{Session}
 use Rattle.graph_runs.specs.declared.serve.Served.{Served}
 use Rattle.graph_runs.specs.Serving.{IsServed}
@@ -23,7 +23,7 @@ pub record CanGrow (g : GraphValue) (s : SeatValue) (cells : List ℕ) (growers 
   pub owed : IsCovered s cells
 
 -- a growth from these cells is over
-pub record HasGrown (g : GraphValue) (s : SeatValue) (cells : List ℕ) (growers : ℕ) (growth : Growth) : Type 0 where
+pub record HasGrown (g : GraphValue) (s : SeatValue) (cells : List ℕ) (growers : ℕ) (growth : GrownSeat) : Type 0 where
   pub belongs : Belongs growth.seat g
   pub grown : IsGrown s.view growth.seat.view cells growers growth.grown
 

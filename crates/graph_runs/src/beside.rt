@@ -18,7 +18,7 @@ use std::thread::{Threads, join, map_vec};
 
 /// What a growth answered, and its seat.
 #[derive(Drop)]
-pub(crate) struct Growth {
+pub(crate) struct GrownSeat {
     pub(crate) seat: Seat,
     pub(crate) grown: Grown,
 }
@@ -36,7 +36,7 @@ pub(crate) fn run_both<R: Threads + Sync, G: Gate>(
     sessions: Vec<Session>,
     gate: &G,
 ) -> (
-    Result<Growth, NoMemory>,
+    Result<GrownSeat, NoMemory>,
     Result<Vec<Result<Served, NoMemory>>, NoMemory>,
 )
     requires can { CanGrow graph.now growing.0 growing.1.items growing.2 }
@@ -49,7 +49,7 @@ pub(crate) fn run_both<R: Threads + Sync, G: Gate>(
     let (seat, cells, growers) = growing;
     join(
         rt,
-        move || -> Result<Growth, NoMemory>
+        move || -> Result<GrownSeat, NoMemory>
             requires { IsSync R.row × CanGrow graph.now seat cells.items growers }
             ensures { IfOk result (HasGrown graph.entry.now seat cells.items growers) }
         { grow_by(rt, alloc, graph, seat, cells, growers, gate) },
@@ -71,13 +71,13 @@ fn grow_by<R: Threads + Sync, G: Gate>(
     cells: Vec<u32>,
     growers: u32,
     gate: &G,
-) -> Result<Growth, NoMemory>
+) -> Result<GrownSeat, NoMemory>
     requires { CanGrow graph.now seat cells.items growers }
     ensures { IfOk result (HasGrown graph.now seat cells.items growers) }
 {
     let mut seat = seat;
     match grow(rt, alloc, graph, &mut seat, cells, growers, gate) {
-        Ok(grown) => Ok(Growth { seat, grown }),
+        Ok(grown) => Ok(GrownSeat { seat, grown }),
         Err(_) => Err(NoMemory),
     }
 }

@@ -12,7 +12,7 @@ use std::alloc::Global;
 
 /// What all sessions brought back: their replies in order, and the cells that they put in.
 #[derive(Drop)]
-pub(crate) struct Heard {
+pub(crate) struct Brought {
     pub(crate) told: Vec<Replies>,
     pub(crate) cells: Vec<u32>,
 }
@@ -24,7 +24,7 @@ pub(crate) fn hear(
     seat: &mut Seat,
     scripts: &Scripts,
     back: Vec<Result<Served, NoMemory>>,
-) -> Result<Heard, NoMemory>
+) -> Result<Brought, NoMemory>
     requires belongs { Belongs seat.old graph.now }
     requires pledge { seat.old.view.dues.pledge ≡ 0 }
     requires many { length back.items ≡ length scripts.now }
@@ -46,5 +46,5 @@ pub(crate) fn hear(
         told.push(replies)?;
     }
     told.reverse();
-    Ok(Heard { told, cells })
+    Ok(Brought { told, cells })
 }

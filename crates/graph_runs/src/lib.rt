@@ -20,7 +20,5 @@ mod hear;
 mod run;
 mod seats;
 mod serve;
-#[cfg(test)]
-mod tests;
 
 pub use run::{Held, Ran, run_beside};

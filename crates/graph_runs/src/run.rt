@@ -4,9 +4,9 @@ ghost use Rattle.session_desk.specs.Sessions.{IsAsked};
 ghost use Rattle.session_desk.specs.Texts.{IsPrintable};
 ghost use Rattle.graph_runs.specs.Runs.{IsHistory, Ends, Holds};
 
-use crate::beside::{Growth, run_both};
+use crate::beside::{GrownSeat, run_both};
 use crate::finish::finish;
-use crate::hear::{Heard, hear};
+use crate::hear::{Brought, hear};
 use crate::seats::seat_all;
 use crate::serve::{Served, begin};
 use canonical_graph::Finished;
@@ -74,8 +74,8 @@ pub fn run_beside<R: Threads + Sync, G: Gate>(
         sessions,
         gate,
     );
-    let Growth { mut seat, grown } = growth?;
-    let Heard { told, cells } = hear(alloc, &graph, &mut seat, scripts, back?)?;
+    let GrownSeat { mut seat, grown } = growth?;
+    let Brought { told, cells } = hear(alloc, &graph, &mut seat, scripts, back?)?;
     let finished = finish(rt, alloc, &graph, &mut seat, grown, cells, growers, gate)?;
     Ok(Ran {
         told,

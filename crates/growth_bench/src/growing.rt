@@ -13,7 +13,7 @@ use tensor_words::World;
 
 /// How a growth ends.
 #[derive(Clone, Copy, Debug, PartialEq, Eq)]
-pub enum Ending {
+pub enum GrowthEnd {
     /// Nothing was grown.
     Begun,
     /// All arrows are drawn.
@@ -28,7 +28,7 @@ pub fn run<R: Threads + Sync>(
     alloc: Global,
     world: World,
     growers: u32,
-) -> Result<Ending, NoMemory>
+) -> Result<GrowthEnd, NoMemory>
     requires { growers ≤ 16 }
 {
     let (graph, seat) = Graph::new(alloc, world)?;
@@ -44,22 +44,22 @@ fn grow_from<R: Threads + Sync>(
     mut seat: Seat,
     root: u64,
     growers: u32,
-) -> Result<Ending, NoMemory>
+) -> Result<GrowthEnd, NoMemory>
     requires table { seat.table ≡ graph.now.table }
     requires new { seat.view ≡ first_view graph.now.world }
     requires root { Contains graph.now.world.roots root }
     requires growers { growers ≤ 16 }
 {
     let Added::New { cell } = add(graph, &mut seat, root, Origin::Root) else {
-        return Ok(Ending::Full);
+        return Ok(GrowthEnd::Full);
     };
     if growers == 0 {
-        return Ok(Ending::Begun);
+        return Ok(GrowthEnd::Begun);
     }
     let _stake = seat.stake();
     let cells = Vec::from_array(alloc, [cell])?;
     match grow(rt, alloc, graph, &mut seat, cells, growers, &OpenGate)? {
-        Grown::Closed => Ok(Ending::Closed),
-        Grown::Full { .. } => Ok(Ending::Full),
+        Grown::Closed => Ok(GrowthEnd::Closed),
+        Grown::Full { .. } => Ok(GrowthEnd::Full),
     }
 }

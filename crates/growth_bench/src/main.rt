@@ -10,7 +10,7 @@ ghost use Rattle.std.specs.Prelude.{◌≤◌};
 mod growing;
 
 use crystal_streams::{InputAdapter, NoMemory, read_all};
-use growing::{Ending, run};
+use growing::{GrowthEnd, run};
 use job_text::{Job, read_job};
 use std::alloc::Global;
 use std::thread::Threads;
@@ -51,9 +51,9 @@ fn answer<R: Threads + Sync>(rt: &R, alloc: Global, bytes: &[u8], growers: u32) 
         return "no job";
     };
     match run(rt, alloc, world, growers) {
-        Ok(Ending::Begun) => "begun",
-        Ok(Ending::Closed) => "closed",
-        Ok(Ending::Full) => "full",
+        Ok(GrowthEnd::Begun) => "begun",
+        Ok(GrowthEnd::Closed) => "closed",
+        Ok(GrowthEnd::Full) => "full",
         Err(NoMemory) => "no memory",
     }
 }

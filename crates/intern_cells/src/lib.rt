@@ -9,15 +9,9 @@
 //! It stands on the step calls of graph_rule. Read specs/Entries.antt first, then `entries`.
 #![tactic(auto)]
 
-#[cfg(test)]
-mod crowd_tests;
 mod entries;
 mod look_ups;
 mod path;
-#[cfg(test)]
-mod tests;
-#[cfg(test)]
-mod tight_tests;
 
 pub use entries::{add, add_at};
 pub use look_ups::{find, word};

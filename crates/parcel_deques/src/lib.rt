@@ -28,15 +28,11 @@
 mod bench;
 mod ends;
 mod gathering;
-#[cfg(test)]
-mod gathering_tests;
 mod making;
 mod own;
 mod owner;
 mod parcel;
 mod rule;
-#[cfg(test)]
-mod tests;
 
 pub use bench::Bench;
 pub use gathering::gather;

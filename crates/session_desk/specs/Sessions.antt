@@ -1,5 +1,5 @@
 -- Sessions: what may be asked, and what a session on a desk has told.
-use Rattle.std.specs.Prelude.{ℕ, ◌+◌, ◌<◌, ◌≡◌, List, [], ◌∷◌, ◌++◌, length, slice_index_or, Some, All, Contains}
+use Rattle.std.specs.Prelude.{ℕ, ◌+◌, ◌<◌, ◌≡◌, List, [], ◌++◌, length, slice_index_or, Some, All, Contains}
 use Rattle.crystal_cartan.specs.Types.{HasIndex}
 use Rattle.tensor_words.specs.Spaces.{size}
 use Rattle.tensor_words.specs.Operators.{IsArrow}

@@ -21,6 +21,3 @@ mod words;
 pub use reply::{Reply, reply_line};
 pub use scripts::run_script;
 pub use sessions::{Replies, run_sessions};
-
-#[cfg(test)]
-mod tests;

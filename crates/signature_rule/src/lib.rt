@@ -13,7 +13,7 @@
 //! (`brackets`). In the standard order the closing signs are phi and the opening signs eps: f_i acts at the rightmost
 //! phi that is left over, e_i at the leftmost eps. In Kashiwara's order the two kinds of signs change their parts.
 //!
-//! **Stands on** tensor_words, whose plain recursion it is compared with in its tests.
+//! **Stands on** tensor_words, with whose plain recursion word_tests compares it.
 #![tactic(auto)]
 
 mod arrow_order;
@@ -21,12 +21,8 @@ mod brackets;
 mod last_word;
 mod laws;
 mod operators;
-#[cfg(test)]
-mod place_tests;
 mod places;
 mod raising;
-#[cfg(test)]
-mod tests;
 
 pub use arrow_order::arrow_at;
 pub use last_word::LastWord;

@@ -21,6 +21,3 @@ pub use laws::spin_laws;
 pub use operators::{eps, lower, phi, raise};
 pub use signs::{Half, Signs};
 pub use weights::weight;
-
-#[cfg(test)]
-mod tests;

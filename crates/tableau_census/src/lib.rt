@@ -15,8 +15,6 @@
 
 mod counting;
 mod laws;
-#[cfg(test)]
-mod tests;
 
 pub use counting::{CensusFault, census};
 pub use laws::{

@@ -21,8 +21,6 @@ mod parsing;
 mod printing;
 mod readings;
 mod shapes;
-#[cfg(test)]
-mod tests;
 
 pub use fillings::Filling;
 pub use laws::{text_laws, top_laws};

@@ -23,8 +23,6 @@ mod rule;
 mod spaces;
 mod steps;
 mod tables;
-#[cfg(test)]
-mod tests;
 mod weights;
 mod words;
 mod worlds;

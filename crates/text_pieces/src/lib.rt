@@ -12,6 +12,3 @@ mod words;
 pub use lines::{are_printed, cut};
 pub use numbers::{number_of, read_digits};
 pub use words::{behind, count_words, first, first_word};
-
-#[cfg(test)]
-mod tests;

@@ -13,8 +13,6 @@
 mod arrows;
 mod laws;
 mod letters;
-#[cfg(test)]
-mod tests;
 
 pub use arrows::{eps, lower, phi, raise};
 pub use laws::letter_laws;

@@ -1,4 +1,4 @@
-use Rattle.std.proofs.Common.{◌≡◌, sym, ap, subst, ◌∙◌, ℕ, ◌+◌, ◌-◌, ◌<◌, ◌%◌, rules, arith}
+use Rattle.std.proofs.Common.{◌≡◌, sym, ap, subst, ◌∙◌, ℕ, ◌+◌, ◌-◌, ◌<◌, ◌%◌, arith}
 use Rattle.tensor_words.specs.Worlds.{WorldType}
 use Rattle.intern_cells.proofs.Searching.{begins_at, belongs_now, cell_below, cells_now, origin_now, moved_to, straight_cell, searching_then, probed_then, turn_within, next_straight}
 use Rattle.intern_cells.proofs.entries.look_for_room.Goals as goal

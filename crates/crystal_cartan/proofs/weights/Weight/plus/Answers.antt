@@ -1,4 +1,4 @@
-use Rattle.std.proofs.Common.{◌≡◌, length, ap, sym, ◌∙◌, arith, pos}
+use Rattle.std.proofs.Common.{◌≡◌, length, ap, arith, pos}
 use Rattle.crystal_cartan.specs.Padded.{length-take_padded}
 use Rattle.crystal_cartan.proofs.Coordinates.{small_padded, sums_padded, sums_are}
 use Rattle.crystal_cartan.proofs.weights.Weight.plus.Goals as goal

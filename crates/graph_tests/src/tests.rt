@@ -1,0 +1,7 @@
+//! A module for each crate, or for each thing that is tried of it.
+
+mod censuses;
+mod characters;
+mod graphs;
+mod matches;
+mod subsets;

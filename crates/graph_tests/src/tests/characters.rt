@@ -1,0 +1,216 @@
+//! Characters, reflections and reports of small components. The expected values are counted by hand, from the weights
+//! of the representations and their restrictions to the sl_2 of each simple root.
+ghost use Rattle.std.specs.Prelude.{◌<◌, length};
+ghost use Rattle.crystal_cartan.specs.Types.{HasIndex};
+
+use canonical_graph::{Finished, grow_plain};
+use crystal_cartan::{Cartan, Kind};
+use crystal_characters::*;
+use std::alloc::{AllocError, Global};
+use std::test::Fail;
+use tensor_words::{Codes, Factor, Space, World};
+
+const V: Factor = Factor::Vector;
+
+/// The component of the word with this code.
+fn component(
+    alloc: Global,
+    kind: Kind,
+    rank: u8,
+    factors: &[Factor],
+    code: u64,
+) -> Option<Finished> {
+    let space = Space::new(Cartan::new(kind, rank).ok()?, factors).ok()?;
+    let mut roots = Vec::new(alloc);
+    roots.push(code).ok()?;
+    let world = World::new(space, 100, Codes::of(roots)).ok()?;
+    grow_plain(alloc, &world).ok()
+}
+
+/// The component of the shape 2 1 in type A_2: the word 2 1 1.
+fn adjoint_of_a2(alloc: Global) -> Option<Finished> {
+    component(alloc, Kind::A, 2, &[V, V, V], 9)
+}
+
+/// The three coordinates of the k-th weight, doubled, and its multiplicity.
+fn entry(character: &Character, k: usize) -> Option<(i32, i32, i32, u64)> {
+    if k >= character.len() {
+        return None;
+    }
+    let weight = character.weight_at(k);
+    if weight.coordinates() != 3 {
+        return None;
+    }
+    Some((
+        weight.doubled_at(1),
+        weight.doubled_at(2),
+        weight.doubled_at(3),
+        character.times_at(k),
+    ))
+}
+
+#[test]
+fn character_of_a2(rt: HostRuntime) -> Result<(), Fail> {
+    let graph = adjoint_of_a2(rt.alloc()).ok_or("the word is reached")?;
+    let whole = character(rt.alloc(), &graph).ok().ok_or("there is memory")?;
+    let expected = [
+        (4, 2, 0, 1),
+        (4, 0, 2, 1),
+        (2, 4, 0, 1),
+        (2, 2, 2, 2),
+        (2, 0, 4, 1),
+        (0, 4, 2, 1),
+        (0, 2, 4, 1),
+    ];
+    assert_eq!(rt; whole.len(), 7);
+    for k in 0..7 {
+        assert_eq!(rt; entry(&whole, k), Some(expected[k]), "place {k}");
+    }
+    characters_are_unique();
+    reflections_keep_multiplicities();
+    tallies_are_exact();
+    Ok(())
+}
+
+/// Whether these are the reflections at i of all vertices, in ascending rank.
+fn has_images(graph: &Finished, i: u8, images: &[u32]) -> bool {
+    if !graph.space().cartan().has_index(i) || graph.len() as usize != images.len() {
+        return false;
+    }
+    for rank in 0..graph.len() {
+        if reflect(graph, rank, i) != images[rank as usize] {
+            return false;
+        }
+    }
+    true
+}
+
+#[test]
+fn reflections_in_a2(rt: HostRuntime) -> Result<(), Fail> {
+    let vector = component(rt.alloc(), Kind::A, 2, &[V], 0).ok_or("the word is reached")?;
+    assert!(rt; has_images(&vector, 1, &[1, 0, 2]));
+    assert!(rt; has_images(&vector, 2, &[0, 2, 1]));
+    let adjoint = adjoint_of_a2(rt.alloc()).ok_or("the word is reached")?;
+    assert!(rt; has_images(&adjoint, 1, &[1, 0, 2, 6, 4, 7, 3, 5]));
+    Ok(())
+}
+
+/// In the vector crystal of type C_2 the letters 1, 2, -2, -1 have the ranks 0 to 3: the reflection at 1 exchanges the
+/// letters 1 and 2, and -2 and -1, that at 2 the letters 2 and -2.
+#[test]
+fn reflections_in_c2(rt: HostRuntime) -> Result<(), Fail> {
+    let vector = component(rt.alloc(), Kind::C, 2, &[V], 0).ok_or("the word is reached")?;
+    assert!(rt; has_images(&vector, 1, &[1, 0, 3, 2]));
+    assert!(rt; has_images(&vector, 2, &[0, 2, 1, 3]));
+    Ok(())
+}
+
+/// The three statistics, fed with nothing.
+macro_rules! statistics {
+    ($alloc:expr) => {{
+        let mut all: Vec<Box<dyn Statistic>> = Vec::new($alloc);
+        all.push(Box::new($alloc, CharacterTally::new($alloc))?)?;
+        all.push(Box::new($alloc, StringTally::new($alloc))?)?;
+        all.push(Box::new($alloc, EndTally::new($alloc))?)?;
+        all
+    }};
+}
+
+/// The report of a statistic.
+fn report_of(alloc: Global, statistic: &Box<dyn Statistic>) -> Option<Vec<u8>> {
+    let mut out = Vec::new(alloc);
+    statistic.report(&mut out).ok()?;
+    Some(out)
+}
+
+/// Whether the three statistics have these reports.
+fn have_reports(alloc: Global, all: &[Box<dyn Statistic>], reports: [&str; 3]) -> bool {
+    if all.len() != 3 {
+        return false;
+    }
+    for k in 0..3 {
+        match report_of(alloc, &all[k]) {
+            Some(report) if report.as_slice() == reports[k].as_bytes() => {}
+            _ => return false,
+        }
+    }
+    true
+}
+
+const A2_ADJOINT: [&str; 3] = [
+    "2 1 0 | 1\n2 0 1 | 1\n1 2 0 | 1\n1 1 1 | 2\n1 0 2 | 1\n0 2 1 | 1\n0 1 2 | 1\n",
+    "1 | 4 | 2\n2 | 4 | 2\n",
+    "6\n",
+];
+
+const B2_ADJOINT: [&str; 3] = [
+    "1 1 | 1\n1 0 | 1\n1 -1 | 1\n0 1 | 1\n0 0 | 2\n0 -1 | 1\n-1 1 | 1\n-1 0 | 1\n-1 -1 | 1\n",
+    "1 | 6 | 2\n2 | 4 | 2\n",
+    "6\n",
+];
+
+const B2_SPIN: [&str; 3] = [
+    "1/2 1/2 | 1\n1/2 -1/2 | 1\n-1/2 1/2 | 1\n-1/2 -1/2 | 1\n",
+    "1 | 3 | 1\n2 | 2 | 1\n",
+    "4\n",
+];
+
+const C2_SECOND: [&str; 3] = [
+    "1 1 | 1\n1 -1 | 1\n0 0 | 1\n-1 1 | 1\n-1 -1 | 1\n",
+    "1 | 3 | 2\n2 | 3 | 1\n",
+    "4\n",
+];
+
+const D4_VECTOR: [&str; 3] = [
+    "1 0 0 0 | 1\n0 1 0 0 | 1\n0 0 1 0 | 1\n0 0 0 1 | 1\n0 0 0 -1 | 1\n0 0 -1 0 | 1\n0 -1 0 0 | 1\n-1 0 0 0 | 1\n",
+    "1 | 6 | 1\n2 | 6 | 1\n3 | 6 | 1\n4 | 6 | 1\n",
+    "8\n",
+];
+
+#[test]
+fn reports(rt: HostRuntime) -> Result<(), Fail> {
+    let table = [
+        (Kind::A, 2, &[V, V, V] as &[Factor], 9, A2_ADJOINT),
+        (Kind::B, 2, &[V, V], 5, B2_ADJOINT),
+        (Kind::B, 2, &[Factor::Spin], 0, B2_SPIN),
+        (Kind::C, 2, &[V, V], 4, C2_SECOND),
+        (Kind::D, 4, &[V], 0, D4_VECTOR),
+    ];
+    for (kind, rank, factors, code, expected) in table {
+        let graph = component(rt.alloc(), kind, rank, factors, code).ok_or("the word is reached")?;
+        let mut all = statistics!(rt.alloc());
+        assert!(rt; feed(&mut all, &graph).is_ok());
+        assert!(rt;
+            have_reports(rt.alloc(), all.as_slice(), expected),
+            "{}",
+            expected[2]
+        );
+    }
+    Ok(())
+}
+
+#[test]
+fn names_and_empty_lists(rt: HostRuntime) -> Result<(), Fail> {
+    let all = statistics!(rt.alloc());
+    assert!(rt; have_reports(rt.alloc(), all.as_slice(), ["", "", "0\n"]));
+    let names = ["character", "strings", "ends"];
+    assert_eq!(rt; all.len(), 3);
+    for k in 0..3 {
+        assert_eq!(rt; all[k].name(), names[k]);
+    }
+    Ok(())
+}
+
+#[test]
+fn items_of_two_types(rt: HostRuntime) -> Result<(), Fail> {
+    let first = adjoint_of_a2(rt.alloc()).ok_or("the word is reached")?;
+    let second = component(rt.alloc(), Kind::C, 2, &[V, V], 4).ok_or("the word is reached")?;
+    let mut all = statistics!(rt.alloc());
+    assert!(rt; feed(&mut all, &first).is_ok());
+    assert!(rt; feed(&mut all, &second).is_ok());
+    let character = "2 1 0 | 1\n2 0 1 | 1\n1 2 0 | 1\n1 1 1 | 2\n1 1 | 1\n1 0 2 | 1\n1 -1 | 1\n\
+        0 2 1 | 1\n0 1 2 | 1\n0 0 | 1\n-1 1 | 1\n-1 -1 | 1\n";
+    let expected = [character, "1 | 7 | 2\n2 | 7 | 2\n", "10\n"];
+    assert!(rt; have_reports(rt.alloc(), all.as_slice(), expected));
+    Ok(())
+}

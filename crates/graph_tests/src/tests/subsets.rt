@@ -1,0 +1,200 @@
+//! Worked subsets: sizes by Demazure's character formula, and products of small representations.
+ghost use Rattle.std.specs.Prelude.{◌<◌, IsTrue, All};
+ghost use Rattle.crystal_cartan.specs.Types.{HasIndex};
+ghost use Rattle.tensor_words.specs.Codes.{IsWord};
+
+use canonical_graph::{Finished, grow_plain};
+use crystal_cartan::{Cartan, Kind, Weight};
+use crystal_streams::NoMemory;
+use crystal_subsets::{demazure, product_tops, product_tops_law};
+use std::alloc::Global;
+use tensor_words::{Codes, Factor, Space, Word, World};
+
+const V: Factor = Factor::Vector;
+
+/// The tensor product of vector crystals.
+fn space_of(kind: Kind, rank: u8, factors: &[Factor]) -> Option<Space> {
+    Space::new(Cartan::new(kind, rank).ok()?, factors).ok()
+}
+
+/// The component of the word with this code.
+fn component(
+    alloc: Global,
+    kind: Kind,
+    rank: u8,
+    factors: &[Factor],
+    code: u64,
+) -> Option<Finished> {
+    let space = space_of(kind, rank, factors)?;
+    let roots = Codes::of(vec![in alloc; code].ok()?);
+    let world = World::new(space, 16, roots).ok()?;
+    grow_plain(alloc, &world).ok()
+}
+
+fn has_indices(cartan: Cartan, indices: &[u8]) -> bool
+    ensures { IsTrue result → All (HasIndex cartan) indices.now }
+{
+    indices.iter().all(|i| cartan.has_index(*i))
+}
+
+/// The Demazure subset over the vertex of this rank, `None` where the call cannot be made or wants memory.
+fn subset(alloc: Global, graph: &Finished, rank: u32, indices: &[u8]) -> Option<Vec<u32>> {
+    if rank >= graph.len() || !has_indices(graph.space().cartan(), indices) {
+        return None;
+    }
+    let ranks = demazure(alloc, graph, rank, indices).ok()?;
+    ranks.iter().copied().collect(alloc).ok()
+}
+
+/// Whether the Demazure subset over the vertex of this rank has just these ranks, in this order.
+fn is_subset(alloc: Global, graph: &Finished, rank: u32, indices: &[u8], ranks: &[u32]) -> bool {
+    match subset(alloc, graph, rank, indices) {
+        Some(found) => found.as_slice() == ranks,
+        None => false,
+    }
+}
+
+/// Whether the Demazure subsets over the first vertex along the last 0, 1, 2, .. indices of the word have these sizes.
+fn has_sizes(alloc: Global, graph: &Finished, word: &[u8], sizes: &[usize]) -> bool {
+    if sizes.len() != word.len() + 1 {
+        return false;
+    }
+    for k in 0..sizes.len() {
+        let Some(found) = subset(alloc, graph, 0, &word[word.len() - k..]) else {
+            return false;
+        };
+        if found.len() != sizes[k] {
+            return false;
+        }
+    }
+    true
+}
+
+#[test]
+fn the_last_index_acts_first(rt: HostRuntime) {
+    let graph = component(rt.alloc(), Kind::A, 2, &[V], 0).expect(&rt, "three letters");
+    assert!(rt; is_subset(rt.alloc(), &graph, 0, &[2, 1], &[0, 1, 2]));
+    assert!(rt; is_subset(rt.alloc(), &graph, 0, &[1, 2], &[0, 1]));
+    assert!(rt; is_subset(rt.alloc(), &graph, 1, &[], &[1]));
+    let graph = component(rt.alloc(), Kind::A, 2, &[V, V, V], 9).expect(&rt, "eight words");
+    assert!(rt; is_subset(rt.alloc(), &graph, 3, &[2, 1], &[3, 4, 6, 7]));
+    assert!(rt; is_subset(rt.alloc(), &graph, 3, &[1, 2], &[3, 4, 6]));
+}
+
+#[test]
+fn along_reduced_words(rt: HostRuntime) {
+    let alloc = rt.alloc();
+    let graph = component(alloc, Kind::A, 2, &[V, V, V], 9).expect(&rt, "eight words");
+    assert!(rt; has_sizes(alloc, &graph, &[1, 2, 1], &[1, 2, 5, 8]));
+    let graph = component(alloc, Kind::B, 2, &[V], 0).expect(&rt, "five letters");
+    assert!(rt; has_sizes(alloc, &graph, &[2, 1, 2, 1], &[1, 2, 4, 5, 5]));
+    let graph = component(alloc, Kind::B, 2, &[V, V], 5).expect(&rt, "ten words");
+    assert!(rt; has_sizes(alloc, &graph, &[2, 1, 2, 1], &[1, 1, 3, 6, 10]));
+    let graph = component(alloc, Kind::C, 2, &[V], 0).expect(&rt, "four letters");
+    assert!(rt; has_sizes(alloc, &graph, &[2, 1, 2, 1], &[1, 2, 3, 4, 4]));
+    let graph = component(alloc, Kind::D, 3, &[V], 0).expect(&rt, "six letters");
+    assert!(rt; has_sizes(alloc, &graph, &[1, 2, 1, 3, 1, 2], &[1, 1, 2, 3, 3, 5, 6]));
+}
+
+/// The vertices that are tops beside the weight of a word.
+fn tops_beside_word(
+    alloc: Global,
+    graph: &Finished,
+    other: &Space,
+    word: &Word,
+) -> Option<Result<Vec<(u32, Weight)>, NoMemory>>
+    requires { IsWord other.now word.now }
+{
+    let weight = other.weight(word);
+    if graph.space().cartan() != other.cartan() || !other.cartan().is_dominant(&weight) {
+        return None;
+    }
+    Some(product_tops(alloc, graph, &weight))
+}
+
+/// Whether these are the doubled coordinates.
+fn has_coordinates(weight: &Weight, doubled: &[i32]) -> bool {
+    if weight.coordinates() as usize != doubled.len() {
+        return false;
+    }
+    for k in 0..weight.coordinates() {
+        if weight.doubled_at(k + 1) != doubled[k as usize] {
+            return false;
+        }
+    }
+    true
+}
+
+/// Whether just these vertices are tops beside the weight of the word with this code, with these doubled sums.
+fn are_tops(
+    alloc: Global,
+    graph: &Finished,
+    other: &Space,
+    code: u64,
+    expected: &[(u32, &[i32])],
+) -> bool {
+    let Some(word) = other.word_of(code) else {
+        return false;
+    };
+    let Some(Ok(tops)) = tops_beside_word(alloc, graph, other, &word) else {
+        return false;
+    };
+    if tops.len() != expected.len() {
+        return false;
+    }
+    for k in 0..expected.len() {
+        if tops[k].0 != expected[k].0 || !has_coordinates(&tops[k].1, expected[k].1) {
+            return false;
+        }
+    }
+    true
+}
+
+#[test]
+fn products_with_a_vector(rt: HostRuntime) {
+    let alloc = rt.alloc();
+    product_tops_law();
+    // Clebsch and Gordan: 2 by 1 is 3 and 1.
+    let graph = component(alloc, Kind::A, 1, &[V, V], 0).expect(&rt, "three words");
+    let other = space_of(Kind::A, 1, &[V]).expect(&rt, "one factor");
+    assert!(rt; are_tops(alloc, &graph, &other, 0, &[(0, &[6, 0]), (1, &[4, 2])]));
+    // Pieri: one box is added to the shape 2 1 in each of three rows.
+    let graph = component(alloc, Kind::A, 2, &[V, V, V], 9).expect(&rt, "eight words");
+    let other = space_of(Kind::A, 2, &[V]).expect(&rt, "one factor");
+    assert!(rt;
+        are_tops(
+            alloc,
+            &graph,
+            &other,
+            0,
+            &[(0, &[6, 2, 0]), (1, &[4, 4, 0]), (4, &[4, 2, 2])]
+        )
+    );
+    // The square of the vector representation: traceless symmetric, alternating and trivial.
+    let graph = component(alloc, Kind::B, 2, &[V], 0).expect(&rt, "five letters");
+    let other = space_of(Kind::B, 2, &[V]).expect(&rt, "one factor");
+    assert!(rt;
+        are_tops(
+            alloc,
+            &graph,
+            &other,
+            0,
+            &[(0, &[4, 0]), (1, &[2, 2]), (4, &[0, 0])]
+        )
+    );
+    let graph = component(alloc, Kind::C, 2, &[V], 0).expect(&rt, "four letters");
+    let other = space_of(Kind::C, 2, &[V]).expect(&rt, "one factor");
+    assert!(rt;
+        are_tops(
+            alloc,
+            &graph,
+            &other,
+            0,
+            &[(0, &[4, 0]), (1, &[2, 2]), (3, &[0, 0])]
+        )
+    );
+    let graph = component(alloc, Kind::D, 4, &[V], 0).expect(&rt, "eight letters");
+    let other = space_of(Kind::D, 4, &[V]).expect(&rt, "one factor");
+    let tops: [(u32, &[i32]); 3] = [(0, &[4, 0, 0, 0]), (1, &[2, 2, 0, 0]), (7, &[0, 0, 0, 0])];
+    assert!(rt; are_tops(alloc, &graph, &other, 0, &tops));
+}

@@ -1,0 +1,7 @@
+//! A module for each crate, or for each thing that is tried of it.
+
+mod gatherings;
+mod growers;
+mod growths;
+mod parcels;
+mod runs;

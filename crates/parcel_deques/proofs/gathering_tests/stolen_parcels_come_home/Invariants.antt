@@ -1,5 +1,0 @@
--- The parcels are for the graph of the call.
-use Rattle.parcel_deques.proofs.gathering_tests.stolen_parcels_come_home.Given as goal
-
-abbrev pub ghosts-steal_across : goal.ghosts-steal_across
-ghosts-steal_across g a = record { graph = a.graph.now }

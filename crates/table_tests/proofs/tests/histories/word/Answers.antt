@@ -1,0 +1,6 @@
+use Rattle.std.proofs.Common.{[]}
+use Rattle.graph_history.proofs.OwnActs as own
+use Rattle.table_tests.proofs.tests.histories.word.Goals as goal
+
+pub word-requires : goal.word-requires
+word-requires c = (c.args.code, own.met_there _ _ _ _ [] c.in_ok-cell.cell c.args.code [] c.in_ok-cell.ensures.goes.grows)

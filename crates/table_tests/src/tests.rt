@@ -1,0 +1,8 @@
+//! A module for each crate, or for each thing that is tried of it.
+
+mod cells;
+mod crowds;
+mod edges;
+mod histories;
+mod rules;
+mod tight_seats;

@@ -1,0 +1,176 @@
+//! Words of the shared table, by calls.
+ghost use Rattle.std.specs.Prelude.{◌≡◌, ◌<◌, ◌≤◌, ◌+◌, Contains};
+ghost use Rattle.graph_rule.specs.Values.{Belongs};
+
+use crystal_cartan::{Cartan, Kind};
+use crystal_streams::NoMemory;
+use graph_history::{Added, Origin};
+use graph_rule::{Graph, Seat, tally};
+use intern_cells::{add, add_at, find, word};
+use std::alloc::Global;
+use std::thread::{Threads, join};
+use tensor_words::{Codes, Factor, Space, World};
+
+/// The words of two letters in A_1, with the roots `1 1` and `2 1`.
+fn world(alloc: Global, cells: u32) -> Result<Option<World>, NoMemory> {
+    let roots = Codes::of(Vec::from_array(alloc, [0, 2])?);
+    let Ok(cartan) = Cartan::new(Kind::A, 1) else {
+        return Ok(None);
+    };
+    let Ok(space) = Space::new(cartan, &[Factor::Vector, Factor::Vector]) else {
+        return Ok(None);
+    };
+    if roots.len() > 2 {
+        return Ok(None);
+    }
+    Ok(World::new(space, cells, roots).ok())
+}
+
+/// Adds a root, `None` where the code is that of no root.
+pub(crate) fn add_root(graph: &Graph, seat: &mut Seat, code: u64) -> Option<Added>
+    requires belongs { Belongs seat.old graph.now }
+    requires pledge { seat.old.view.dues.pledge ≡ 0 }
+    ensures belongs { Belongs seat.new graph.now }
+    ensures pledge { seat.new.view.dues.pledge ≡ 0 }
+{
+    if !graph.world().has_root(code) {
+        return None;
+    }
+    Some(add(graph, seat, code, Origin::Root))
+}
+
+/// The same with a look at one cell first.
+fn add_root_at(graph: &Graph, seat: &mut Seat, code: u64, near: u32) -> Option<Added>
+    requires belongs { Belongs seat.old graph.now }
+    requires pledge { seat.old.view.dues.pledge ≡ 0 }
+    ensures belongs { Belongs seat.new graph.now }
+    ensures pledge { seat.new.view.dues.pledge ≡ 0 }
+{
+    if !graph.world().has_root(code) {
+        return None;
+    }
+    Some(add_at(graph, seat, code, Origin::Root, near))
+}
+
+pub(crate) fn find_code(graph: &Graph, seat: &mut Seat, code: u64) -> Option<Option<u32>>
+    requires belongs { Belongs seat.old graph.now }
+    requires pledge { seat.old.view.dues.pledge ≡ 0 }
+    ensures belongs { Belongs seat.new graph.now }
+    ensures pledge { seat.new.view.dues.pledge ≡ 0 }
+{
+    if code >= graph.world().space().size() {
+        return None;
+    }
+    Some(find(graph, seat, code))
+}
+
+fn word_at(graph: &Graph, seat: &mut Seat, cell: u32) -> Option<Option<u64>>
+    requires belongs { Belongs seat.old graph.now }
+    requires pledge { seat.old.view.dues.pledge ≡ 0 }
+    ensures belongs { Belongs seat.new graph.now }
+    ensures pledge { seat.new.view.dues.pledge ≡ 0 }
+{
+    if cell >= graph.world().cells() {
+        return None;
+    }
+    Some(word(graph, seat, cell))
+}
+
+#[test]
+fn one_cell(rt: HostRuntime) -> Result<(), NoMemory> {
+    let world = world(rt.alloc(), 1)?.expect(&rt, "a world of one cell");
+    let (graph, mut seat) = Graph::new(rt.alloc(), world)?;
+    assert_eq!(rt; tally(&graph, &mut seat), 0);
+    assert_eq!(rt;
+        add_root(&graph, &mut seat, 0),
+        Some(Added::New { cell: 0 })
+    );
+    assert_eq!(rt; add_root(&graph, &mut seat, 2), Some(Added::Full));
+    assert_eq!(rt; find_code(&graph, &mut seat, 2), Some(None));
+    assert_eq!(rt;
+        add_root(&graph, &mut seat, 0),
+        Some(Added::Old { cell: 0 })
+    );
+    assert_eq!(rt; find_code(&graph, &mut seat, 0), Some(Some(0)));
+    assert_eq!(rt; word_at(&graph, &mut seat, 0), Some(Some(0)));
+    assert_eq!(rt; tally(&graph, &mut seat), 1);
+    Ok(())
+}
+
+/// A right place, one that is empty, one past the last cell, and one with another word; and a new word at a wrong place.
+#[test]
+fn near_or_not(rt: HostRuntime) -> Result<(), NoMemory> {
+    let world = world(rt.alloc(), 4)?.expect(&rt, "a world of four cells");
+    let (graph, mut seat) = Graph::new(rt.alloc(), world)?;
+    let Some(Added::New { cell }) = add_root_at(&graph, &mut seat, 2, 3) else {
+        panic!(rt; "the word is new");
+    };
+    let old = Some(Added::Old { cell });
+    assert_eq!(rt; add_root_at(&graph, &mut seat, 2, cell), old);
+    assert_eq!(rt; add_root_at(&graph, &mut seat, 2, cell ^ 1), old);
+    assert_eq!(rt; add_root_at(&graph, &mut seat, 2, 4), old);
+    assert_eq!(rt; add_root_at(&graph, &mut seat, 2, u32::MAX), old);
+    let Some(Added::New { cell: other }) = add_root_at(&graph, &mut seat, 0, cell) else {
+        panic!(rt; "the other word is new");
+    };
+    assert!(rt; other != cell);
+    assert_eq!(rt; add_root_at(&graph, &mut seat, 2, other), old);
+    assert_eq!(rt; find_code(&graph, &mut seat, 0), Some(Some(other)));
+    assert_eq!(rt; tally(&graph, &mut seat), 2);
+    Ok(())
+}
+
+/// A seat, and what it was told.
+#[derive(Drop)]
+struct Told {
+    seat: Seat,
+    answer: Option<Added>,
+}
+
+fn add_with(graph: &Graph, seat: Seat, code: u64) -> Told
+    requires { Belongs seat graph.now × (seat.view.dues.pledge ≡ 0) }
+    ensures { Belongs result.seat graph.now × (result.seat.view.dues.pledge ≡ 0) }
+{
+    let mut seat = seat;
+    let answer = add_root(graph, &mut seat, code);
+    Told { seat, answer }
+}
+
+/// Each of two seats adds the root on a thread of its own.
+fn add_both<R: Threads + Sync>(rt: &R, graph: &Graph, one: Seat, two: Seat) -> (Told, Told)
+    requires one { Belongs one graph.now × (one.view.dues.pledge ≡ 0) }
+    requires two { Belongs two graph.now × (two.view.dues.pledge ≡ 0) }
+    ensures one { Belongs result.0.seat graph.now × (result.0.seat.view.dues.pledge ≡ 0) }
+    ensures two { Belongs result.1.seat graph.now × (result.1.seat.view.dues.pledge ≡ 0) }
+{
+    join(
+        rt,
+        move || add_with(graph, one, 2),
+        move || add_with(graph, two, 2),
+    )
+}
+
+#[test]
+fn two_seats(rt: HostRuntime) -> Result<(), NoMemory> {
+    let world = world(rt.alloc(), 4)?.expect(&rt, "a world of four cells");
+    let (graph, mut seat) = Graph::new(rt.alloc(), world)?;
+    let child = seat.split(&graph, 1, 1);
+    assert_eq!(rt;
+        (child.number(), child.numbers_left(), child.stake()),
+        (1, 0, 1)
+    );
+    let (mine, other) = add_both(&rt, &graph, seat, child);
+    let cells = match (mine.answer, other.answer) {
+        (Some(Added::New { cell: one }), Some(Added::Old { cell: two })) => (one, two),
+        (Some(Added::Old { cell: one }), Some(Added::New { cell: two })) => (one, two),
+        _ => panic!(rt; "one of the two is new, and one is old"),
+    };
+    assert_eq!(rt; cells.0, cells.1);
+    let mut seat = mine.seat;
+    seat.join(&graph, other.seat);
+    seat.meet(&graph);
+    assert_eq!(rt; seat.stake(), 65_536);
+    assert_eq!(rt; find_code(&graph, &mut seat, 2), Some(Some(cells.0)));
+    assert_eq!(rt; tally(&graph, &mut seat), 1);
+    Ok(())
+}

@@ -1,0 +1,110 @@
+//! A desk over lists in memory, by calls.
+use crystal_cartan::{Arrow, Cartan, Kind};
+use crystal_streams::NoMemory;
+use graph_history::{Added, Desk, Draw, Look, PlainDesk};
+use std::alloc::Global;
+use tensor_words::{Codes, Factor, Space, World};
+
+const F_1: Arrow = Arrow {
+    down: true,
+    index: 1,
+};
+
+const E_1: Arrow = Arrow {
+    down: false,
+    index: 1,
+};
+
+/// The words of two letters in A_1, with these roots.
+fn world(cells: u32, roots: Codes) -> Option<World> {
+    let cartan = Cartan::new(Kind::A, 1).ok()?;
+    let space = Space::new(cartan, &[Factor::Vector, Factor::Vector]).ok()?;
+    if roots.len() > 2 {
+        return None;
+    }
+    World::new(space, cells, roots).ok()
+}
+
+fn desk(alloc: Global, cells: u32, roots: Vec<u64>) -> Result<Option<PlainDesk>, NoMemory> {
+    match world(cells, Codes::of(roots)) {
+        Some(world) => Ok(Some(PlainDesk::new(alloc, world, 0)?)),
+        None => Ok(None),
+    }
+}
+
+fn add(desk: &mut PlainDesk, code: u64) -> Option<Added> {
+    if !desk.world().has_root(code) || desk.room() == 0 {
+        return None;
+    }
+    Some(desk.add(code))
+}
+
+fn find(desk: &mut PlainDesk, code: u64) -> Option<Option<u32>> {
+    if code >= desk.space().size() {
+        return None;
+    }
+    Some(desk.find(code))
+}
+
+fn look(desk: &mut PlainDesk, code: u64, arrow: Arrow) -> Option<Look> {
+    if code >= desk.space().size() || !desk.space().cartan().has_index(arrow.index) {
+        return None;
+    }
+    let cell = desk.find(code)?;
+    Some(desk.look(cell, arrow))
+}
+
+fn draw(desk: &mut PlainDesk, code: u64, arrow: Arrow) -> Option<Draw> {
+    if code >= desk.space().size() || !desk.space().cartan().has_index(arrow.index) {
+        return None;
+    }
+    if desk.room() == 0 {
+        return None;
+    }
+    let cell = desk.find(code)?;
+    Some(desk.draw(cell, arrow))
+}
+
+fn word(desk: &mut PlainDesk, code: u64) -> Option<u64> {
+    if code >= desk.space().size() {
+        return None;
+    }
+    let cell = desk.find(code)?;
+    Some(desk.word(cell))
+}
+
+/// The root `1 1` alone. A debt is owed for each word that is put in.
+#[test]
+fn four_cells(rt: HostRuntime) -> Result<(), NoMemory> {
+    let made = desk(rt.alloc(), 4, Vec::from_array(rt.alloc(), [0])?);
+    let mut desk = made.ok().flatten().expect(&rt, "memory for four cells");
+    assert_eq!(rt; desk.tally(), 0);
+    assert!(rt; matches!(add(&mut desk, 0), Some(Added::New { .. })));
+    assert_eq!(rt; desk.tally(), 1);
+    assert_eq!(rt; look(&mut desk, 0, F_1), Some(Look::Blank));
+    let Some(Draw::To { cell }) = draw(&mut desk, 0, F_1) else {
+        panic!(rt; "the arrow leads to a word");
+    };
+    assert_eq!(rt; look(&mut desk, 0, F_1), Some(Look::To { cell }));
+    assert_eq!(rt; find(&mut desk, 1), Some(Some(cell)));
+    assert_eq!(rt; word(&mut desk, 1), Some(1));
+    assert_eq!(rt; draw(&mut desk, 0, E_1), Some(Draw::Zero));
+    assert_eq!(rt; find(&mut desk, 3), Some(None));
+    desk.call_as(1);
+    assert!(rt; matches!(add(&mut desk, 0), Some(Added::Old { .. })));
+    assert_eq!(rt; desk.tally(), 2);
+    let _front = desk.front();
+    Ok(())
+}
+
+/// The roots `1 1` and `2 1`, of which one alone has a cell.
+#[test]
+fn one_cell(rt: HostRuntime) -> Result<(), NoMemory> {
+    let made = desk(rt.alloc(), 1, Vec::from_array(rt.alloc(), [0, 2])?);
+    let mut desk = made.ok().flatten().expect(&rt, "memory for one cell");
+    assert!(rt; matches!(add(&mut desk, 0), Some(Added::New { .. })));
+    assert_eq!(rt; add(&mut desk, 2), Some(Added::Full));
+    assert_eq!(rt; find(&mut desk, 2), Some(None));
+    assert_eq!(rt; draw(&mut desk, 0, F_1), Some(Draw::Full));
+    Ok(())
+}

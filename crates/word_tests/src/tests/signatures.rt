@@ -1,0 +1,100 @@
+//! Worked words in both tensor orders, and the pass over a word beside the recursion.
+ghost use Rattle.crystal_cartan.specs.Types.{HasIndex};
+ghost use Rattle.tensor_words.specs.Codes.{IsWord};
+
+use crystal_cartan::{Arrow, Cartan, Kind};
+use signature_rule::{act, eps, lift, lower, phi, raise, word_laws};
+use tensor_words::{Factor, Order, Space, Word};
+
+const V: Factor = Factor::Vector;
+
+fn made(kind: Kind, rank: u8, factors: &[Factor]) -> Option<Space> {
+    Space::new(Cartan::new(kind, rank).ok()?, factors).ok()
+}
+
+/// The codes of f_i and e_i of the word with this code, and its phi_i and eps_i.
+fn strings(space: &Space, code: u64, i: u8) -> Option<(Option<u64>, Option<u64>, u32, u32)> {
+    if !space.cartan().has_index(i) {
+        return None;
+    }
+    let word = space.word_of(code)?;
+    word_laws(space, &word, i);
+    let arrow = Arrow {
+        down: true,
+        index: i,
+    };
+    let lowered = act(space, &word, arrow).map(|lower| space.code_of(&lower));
+    let raised = raise(space, &word, i).map(|higher| space.code_of(&higher));
+    Some((lowered, raised, phi(space, &word, i), eps(space, &word, i)))
+}
+
+/// The code of the top over the word with this code, and the number of raises.
+fn lifted(space: &Space, code: u64) -> Option<(u64, u32)> {
+    let word = space.word_of(code)?;
+    let (top, raises) = lift(space, &word);
+    Some((space.code_of(&top), raises))
+}
+
+#[test]
+fn worked_words(rt: HostRuntime) {
+    let a1 = made(Kind::A, 1, &[V, V]).expect(&rt, "A_1 has vectors");
+    assert_eq!(rt; strings(&a1, 0, 1), Some((Some(1), None, 2, 0)));
+    assert_eq!(rt; strings(&a1, 1, 1), Some((Some(3), Some(0), 1, 1)));
+    assert_eq!(rt; strings(&a1, 3, 1), Some((None, Some(1), 0, 2)));
+    assert_eq!(rt; lifted(&a1, 3), Some((0, 2)));
+    let c2 = made(Kind::C, 2, &[V, V, V]).expect(&rt, "C_2 has vectors");
+    assert_eq!(rt; strings(&c2, 33, 1), Some((Some(37), Some(32), 2, 1)));
+}
+
+/// The same words read from right to left.
+#[test]
+fn worked_words_in_the_other_order(rt: HostRuntime) {
+    let a1 = made(Kind::A, 1, &[V, V]).expect(&rt, "A_1 has vectors");
+    let a1 = a1.ordered(Order::Kashiwara);
+    assert_eq!(rt; strings(&a1, 1, 1), Some((None, None, 0, 0)));
+    assert_eq!(rt; strings(&a1, 2, 1), Some((Some(3), Some(0), 1, 1)));
+    assert_eq!(rt; lifted(&a1, 3), Some((0, 2)));
+    let c2 = made(Kind::C, 2, &[V, V, V]).expect(&rt, "C_2 has vectors");
+    let c2 = c2.ordered(Order::Kashiwara);
+    assert_eq!(rt; strings(&c2, 18, 1), Some((Some(22), Some(2), 2, 1)));
+}
+
+/// Whether the pass and the recursion agree on this word.
+fn agree_at(space: &Space, word: &Word, i: u8) -> bool
+    requires word { IsWord space.now word.now }
+    requires index { HasIndex space.now.cartan i }
+{
+    lower(space, word, i) == space.by_rule_lower(word, i)
+        && raise(space, word, i) == space.by_rule_raise(word, i)
+        && eps(space, word, i) == space.by_rule_eps(word, i)
+        && phi(space, word, i) == space.by_rule_phi(word, i)
+}
+
+/// The first code and index at which the pass and the recursion differ.
+fn first_difference(space: &Space) -> Option<(u64, u8)> {
+    for code in 0..space.size() {
+        for i in 1..9 {
+            if let Some(word) = space.word_of(code) {
+                if space.cartan().has_index(i) && !agree_at(space, &word, i) {
+                    return Some((code, i));
+                }
+            }
+        }
+    }
+    None
+}
+
+#[test]
+fn pass_beside_recursion(rt: HostRuntime) {
+    for (kind, rank, first, second) in [
+        (Kind::B, 2, Factor::Spin, V),
+        (Kind::D, 3, Factor::SpinPlus, V),
+        (Kind::C, 2, V, V),
+    ] {
+        let space = made(kind, rank, &[first, second]).expect(&rt, "the type has these factors");
+        assert_eq!(rt; first_difference(&space), None);
+        assert_eq!(rt; first_difference(&space.ordered(Order::Kashiwara)), None);
+    }
+    let a2 = made(Kind::A, 2, &[V, V, V]).expect(&rt, "A_2 has vectors");
+    assert_eq!(rt; first_difference(&a2), None);
+}

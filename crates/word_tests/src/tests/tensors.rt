@@ -1,0 +1,178 @@
+//! Codes, operators in both orders, weights, faults and roots of small spaces.
+use crystal_cartan::{Arrow, Cartan, Kind};
+use std::alloc::{AllocError, Global};
+use tensor_words::{Codes, Factor, Order, Space, SpaceFault, World, WorldFault, next_code};
+
+const V: Factor = Factor::Vector;
+
+fn made(kind: Kind, rank: u8, factors: &[Factor]) -> Option<Space> {
+    Space::new(Cartan::new(kind, rank).ok()?, factors).ok()
+}
+
+fn refused(kind: Kind, rank: u8, factors: &[Factor]) -> Option<SpaceFault> {
+    Space::new(Cartan::new(kind, rank).ok()?, factors).err()
+}
+
+/// Whether the word with this code has these digits, and the reverse.
+fn has_digits(space: &Space, code: u64, digits: &[u16]) -> Option<bool> {
+    let word = space.word_of(code)?;
+    let mut same = word.count() as usize == digits.len();
+    for place in 0..word.count() {
+        same = same && digits.get(place as usize).copied() == Some(word.digit(place));
+    }
+    Some(same && space.code_of(&word) == code)
+}
+
+#[test]
+fn codes(rt: HostRuntime) {
+    let a2 = made(Kind::A, 2, &[V, V, V]).expect(&rt, "A_2 has vectors");
+    assert_eq!(rt; has_digits(&a2, 9, &[1, 0, 0]), Some(true));
+    assert_eq!(rt; has_digits(&a2, 23, &[2, 1, 2]), Some(true));
+    assert_eq!(rt; has_digits(&a2, 26, &[2, 2, 2]), Some(true));
+    assert_eq!(rt; has_digits(&a2, 27, &[]), None);
+    let c2 = made(Kind::C, 2, &[V, V]).expect(&rt, "C_2 has vectors");
+    assert_eq!(rt; has_digits(&c2, 9, &[2, 1]), Some(true));
+    assert_eq!(rt; has_digits(&c2, 14, &[3, 2]), Some(true));
+    let b2 = made(Kind::B, 2, &[Factor::Spin, V]).expect(&rt, "B_2 has spin elements");
+    assert_eq!(rt; has_digits(&b2, 7, &[1, 2]), Some(true));
+    let d3 = made(Kind::D, 3, &[Factor::SpinPlus]).expect(&rt, "D_3 has spin elements");
+    assert_eq!(rt; has_digits(&d3, 1, &[1]), Some(true));
+    let a1 = made(Kind::A, 1, &[V, V]).expect(&rt, "A_1 has vectors");
+    assert_eq!(rt; has_digits(&a1, 3, &[1, 1]), Some(true));
+    assert_eq!(rt; has_digits(&a1, 4, &[]), None);
+}
+
+/// The codes of f_i and e_i of the word with this code, and its phi_i and eps_i.
+fn strings(space: &Space, code: u64, i: u8) -> Option<(Option<u64>, Option<u64>, u32, u32)> {
+    if !space.cartan().has_index(i) {
+        return None;
+    }
+    let word = space.word_of(code)?;
+    let down = next_code(
+        space,
+        code,
+        Arrow {
+            down: true,
+            index: i,
+        },
+    );
+    let up = next_code(
+        space,
+        code,
+        Arrow {
+            down: false,
+            index: i,
+        },
+    );
+    Some((
+        down,
+        up,
+        space.by_rule_phi(&word, i),
+        space.by_rule_eps(&word, i),
+    ))
+}
+
+#[test]
+fn operators(rt: HostRuntime) {
+    let c2 = made(Kind::C, 2, &[V, V, V]).expect(&rt, "C_2 has vectors");
+    assert_eq!(rt; strings(&c2, 33, 1), Some((Some(37), Some(32), 2, 1)));
+    let a1 = made(Kind::A, 1, &[V, V]).expect(&rt, "A_1 has vectors");
+    assert_eq!(rt; strings(&a1, 0, 1), Some((Some(1), None, 2, 0)));
+    assert_eq!(rt; strings(&a1, 1, 1), Some((Some(3), Some(0), 1, 1)));
+    assert_eq!(rt; strings(&a1, 3, 1), Some((None, Some(1), 0, 2)));
+}
+
+/// The words of `operators` read from right to left.
+#[test]
+fn operators_in_the_other_order(rt: HostRuntime) {
+    let c2 = made(Kind::C, 2, &[V, V, V]).expect(&rt, "C_2 has vectors");
+    let c2 = c2.ordered(Order::Kashiwara);
+    assert_eq!(rt; c2.order(), Order::Kashiwara);
+    assert_eq!(rt; strings(&c2, 18, 1), Some((Some(22), Some(2), 2, 1)));
+    let a1 = made(Kind::A, 1, &[V, V]).expect(&rt, "A_1 has vectors");
+    assert_eq!(rt; a1.order(), Order::Standard);
+    let a1 = a1.ordered(Order::Kashiwara);
+    assert_eq!(rt; strings(&a1, 1, 1), Some((None, None, 0, 0)));
+    assert_eq!(rt; strings(&a1, 2, 1), Some((Some(3), Some(0), 1, 1)));
+}
+
+/// The first two coordinates of the weight of the word with this code.
+fn weight_of(space: &Space, code: u64) -> Option<(i32, i32)> {
+    let word = space.word_of(code)?;
+    let weight = space.weight(&word);
+    if weight.coordinates() < 2 {
+        return None;
+    }
+    Some((weight.doubled_at(1), weight.doubled_at(2)))
+}
+
+#[test]
+fn weights(rt: HostRuntime) {
+    let c2 = made(Kind::C, 2, &[V, V, V]).expect(&rt, "C_2 has vectors");
+    assert_eq!(rt; weight_of(&c2, 33), Some((2, 0)));
+    let b2 = made(Kind::B, 2, &[Factor::Spin, V]).expect(&rt, "B_2 has spin elements");
+    assert_eq!(rt; weight_of(&b2, 7), Some((1, -1)));
+}
+
+#[test]
+fn faults_of_spaces(rt: HostRuntime) {
+    assert_eq!(rt; refused(Kind::A, 1, &[]), Some(SpaceFault::NoFactor));
+    assert_eq!(rt;
+        refused(Kind::A, 1, &[V; 41]),
+        Some(SpaceFault::TooManyFactors)
+    );
+    assert_eq!(rt;
+        refused(Kind::C, 2, &[V, Factor::Spin]),
+        Some(SpaceFault::WrongFactor { place: 2 })
+    );
+    assert_eq!(rt; refused(Kind::C, 4, &[V; 22]), Some(SpaceFault::TooWide));
+    assert_eq!(rt;
+        made(Kind::C, 4, &[V; 21]).map(|space| space.size()),
+        Some(1 << 63)
+    );
+}
+
+/// The fault of a world in A_1 with two vectors.
+fn world_fault(
+    alloc: Global,
+    cells: u32,
+    roots: [u64; 2],
+) -> Result<Option<WorldFault>, AllocError> {
+    let roots = Codes::of(Vec::from_array(alloc, roots)?);
+    Ok(match made(Kind::A, 1, &[V, V]) {
+        Some(space) => World::new(space, cells, roots).err(),
+        None => None,
+    })
+}
+
+#[test]
+fn faults_of_worlds(rt: HostRuntime) -> Result<(), AllocError> {
+    for (cells, roots, fault) in [
+        (0, [4, 4], Some(WorldFault::CellsRange)),
+        (1_048_577, [0, 1], Some(WorldFault::CellsRange)),
+        (1, [3, 4], Some(WorldFault::NotAWord { place: 2 })),
+        (1, [4, 3], Some(WorldFault::NotAWord { place: 1 })),
+        (1, [3, 3], Some(WorldFault::NotAscending { place: 2 })),
+        (1_048_576, [0, 3], None),
+    ] {
+        assert_eq!(rt; world_fault(rt.alloc(), cells, roots)?, fault);
+    }
+    Ok(())
+}
+
+#[test]
+fn roots_of_a_world(rt: HostRuntime) -> Result<(), AllocError> {
+    let space = made(Kind::A, 1, &[V, V]).expect(&rt, "A_1 has vectors");
+    let none = World::new(space, 1, Codes::of(Vec::new(rt.alloc())));
+    assert_eq!(rt; none.err(), Some(WorldFault::NoRoot));
+    let nothing = World::new(space, 0, Codes::of(Vec::new(rt.alloc())));
+    assert_eq!(rt; nothing.err(), Some(WorldFault::CellsRange));
+    let roots = Codes::of(vec![in rt.alloc(); 1, 3]?);
+    let world = World::new(space, 7, roots).expect(&rt, "the roots are words");
+    assert!(rt; world.has_root(1) && world.has_root(3) && !world.has_root(2));
+    assert_eq!(rt;
+        (world.cells(), world.space().size(), world.roots().len()),
+        (7, 4, 2)
+    );
+    Ok(())
+}
