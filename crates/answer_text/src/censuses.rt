@@ -15,7 +15,7 @@ use crate::lines::keyed_line;
 use crate::pages::{Page, print_line};
 use crystal_streams::{Line, Sink, WriteFault};
 use tableau_reading::{Shape, print_word};
-use tensor_words::{Codes, Space};
+use tensor_words::{Codes, Space, word_with};
 
 /// Prints the tableaux of a shape, or `full` where there are too many.
 pub(crate) fn print_census<W: Sink>(
@@ -89,9 +89,6 @@ fn reading_line(space: &Space, code: u64) -> Line
     ensures { result ≡ word_text space.now (word_of space.now code) }
 {
     let mut line = Line::new();
-    match space.word_of(code) {
-        Some(word) => print_word(space, &word, &mut line),
-        None => unreachable!(),
-    }
+    print_word(space, &word_with(space, code), &mut line);
     line
 }

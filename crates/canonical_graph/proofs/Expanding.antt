@@ -11,7 +11,7 @@ use Rattle.tensor_words.specs.Codes.{code_of, word_of}
 use Rattle.tensor_words.specs.Operators.{acted, op}
 use Rattle.tensor_words.proofs.Keeps.{op_below}
 use Rattle.canonical_graph.specs.Tables.{arrow_to}
-use Rattle.canonical_graph.specs.Growth.{AddsCode, Follows, IsFollowed, IsNeighbour, Expands, HasRoots}
+use Rattle.canonical_graph.specs.Growth.{AddsCode, Follows, IsFollowed, IsNeighbour, Expands, HasFirstRoots}
 use Rattle.canonical_graph.proofs.Adding.{none_in}
 
 pub still_in : (old more new : List ℕ) (c : ℕ) → new ≡ old ++ more → Contains old c → Contains new c
@@ -115,11 +115,11 @@ expands_more s n i code old mid half new space lt next index e low high = record
       | inr third ↦ by_arrow false c (high.only c third)
     ]
 
-pub no_roots : (roots : List ℕ) → HasRoots roots 0 []
+pub no_roots : (roots : List ℕ) → HasFirstRoots roots 0 []
 no_roots roots = record { there = λ j low. absurd (omega arith); only = λ c h. none_in c h }
 
-pub more_roots : (roots old new : List ℕ) (k code : ℕ) → k < length roots → code ≡ get_or roots k 0 → HasRoots roots k old → AddsCode old code new
-    → HasRoots roots (k + 1) new
+pub more_roots : (roots old new : List ℕ) (k code : ℕ) → k < length roots → code ≡ get_or roots k 0 → HasFirstRoots roots k old → AddsCode old code new
+    → HasFirstRoots roots (k + 1) new
 more_roots roots old new k code lt is have added = record {
   there = there;
   only = only;

@@ -20,7 +20,7 @@ use Rattle.tensor_words.specs.Operators.{IsArrow, op}
 use Rattle.tensor_words.specs.Worlds.{WorldType, IsWorld}
 use Rattle.tensor_words.specs.Reach.{IsPath, walk, IsReached, Outnumber}
 use Rattle.canonical_graph.specs.Graphs.{IsClosedList, IsFinished, finished_graph}
-use Rattle.canonical_graph.specs.Growth.{IsFollowed, IsNeighbour, Expands, HasRoots, IsFrontier, HasNexts, IsWhole, IsEnded, IsSortedFrom, IsGrown}
+use Rattle.canonical_graph.specs.Growth.{IsFollowed, IsNeighbour, Expands, HasFirstRoots, IsFrontier, HasNexts, IsWholeGrowth, MakesGraph, IsSortedFrom, IsGrownList}
 use Rattle.canonical_graph.proofs.Expanding.{still_in, old_or_more}
 
 -- an element by its place
@@ -53,7 +53,7 @@ root_reached : (w : WorldType) (c : ℕ) → Contains w.roots c → IsReached w 
 unfolding walk
 root_reached w c there = record { root = c; rooted = there; path = []; arrows = tt; leads = refl }
 
-pub first_frontier : (w : WorldType) (found : List ℕ) → IsWorld w → HasRoots w.roots (length w.roots) found → IsFrontier w 0 found
+pub first_frontier : (w : WorldType) (found : List ℕ) → IsWorld w → HasFirstRoots w.roots (length w.roots) found → IsFrontier w 0 found
 first_frontier w found world roots = record {
   within = omega arith;
   few = omega arith;
@@ -169,7 +169,7 @@ sorted_from found xs ys copied distinct moved sorted = record {
     flips x y = grind (arith, nat_tests)
 
 pub grown : (w : WorldType) (n : ℕ) (found codes : List ℕ) → IsWorld w → IsFrontier w n found → length found ≤ n → IsDistinct nat_eq found
-    → IsSortedFrom found codes → IsGrown w codes
+    → IsSortedFrom found codes → IsGrownList w codes
 grown w n found codes world fr all distinct sorted = record {
   finished = record {
     space = world.space;
@@ -199,7 +199,7 @@ grown w n found codes world fr all distinct sorted = record {
         counted o = length-le_from_is_member nat_eq_equiv o.codes found o.distinct (member o)
 
 pub whole : (w : WorldType) (n : ℕ) (found notes : List ℕ) → IsFrontier w n found → length found ≤ n → IsDistinct nat_eq found
-    → HasNexts w.space found n notes → IsWhole w found notes
+    → HasNexts w.space found n notes → IsWholeGrowth w found notes
 whole w n found notes fr all distinct lowered =
     let same : n ≡ length found = omega (arith, fr.within) in
     record {
@@ -208,10 +208,10 @@ whole w n found notes fr all distinct lowered =
       lowered = rw same at lowered;
     }
 
-pub grown_whole : (w : WorldType) (found codes notes : List ℕ) → IsWorld w → IsWhole w found notes → IsSortedFrom found codes → IsGrown w codes
+pub grown_whole : (w : WorldType) (found codes notes : List ℕ) → IsWorld w → IsWholeGrowth w found notes → IsSortedFrom found codes → IsGrownList w codes
 grown_whole w found codes notes world whole sorted = grown w (length found) found codes world whole.frontier (omega arith) whole.distinct sorted
 
-pub ended_whole : (w : WorldType) (found notes : List ℕ) → IsWorld w → IsWhole w found notes → IsEnded w.space found notes
+pub ended_whole : (w : WorldType) (found notes : List ℕ) → IsWorld w → IsWholeGrowth w found notes → MakesGraph w.space found notes
 ended_whole w found notes world whole = record {
   space = world.space;
   below = whole.frontier.below;
@@ -222,7 +222,7 @@ ended_whole w found notes world whole = record {
 }
 
 -- the graph of a growth that has ended
-pub finished_ended : (s : SpaceType) (found codes notes : List ℕ) → IsEnded s found notes → IsSortedFrom found codes → IsFinished (finished_graph s codes)
+pub finished_ended : (s : SpaceType) (found codes notes : List ℕ) → MakesGraph s found notes → IsSortedFrom found codes → IsFinished (finished_graph s codes)
 finished_ended s found codes notes ended sorted = record {
   space = ended.space;
   ascending = sorted.ascending;

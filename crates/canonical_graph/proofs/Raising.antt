@@ -11,7 +11,7 @@ use Rattle.tensor_words.proofs.Keeps.{op_below}
 use Rattle.tensor_words.proofs.KeptWords.{factors_of_space}
 use Rattle.tensor_words.proofs.Strings.{arrows_lead_back}
 use Rattle.canonical_graph.specs.Graphs.{FinishedType, IsFinished, code_at, rank_in, target_rank, arrow_count}
-use Rattle.canonical_graph.specs.Tables.{entry, entry_at, arrow_to, IsTable, AreLowered, IsKept}
+use Rattle.canonical_graph.specs.Tables.{entry, entry_at, arrow_to, IsTable, AreLowered, KeepsTables}
 use Rattle.canonical_graph.specs.Turning.{AreArrows, LeadsBack, AreTurned}
 use Rattle.canonical_graph.proofs.Ranks.{place_of_rank, rank_of_code, target_below}
 use Rattle.canonical_graph.proofs.Rows.{in_row}
@@ -142,7 +142,7 @@ pub arrows_lowered : (f : FinishedType) (r arrows : ℕ) (low xs : List ℕ) →
 arrows_lowered f r arrows low xs finished have width is = rw (width, is) (arrows_of_table f low finished have.table)
 
 pub kept_turned : (f : FinishedType) (r arrows : ℕ) (low xs high : List ℕ) → IsFinished f → AreLowered f (length f.codes) low arrows → r ≡ f.space.cartan.rank → xs ≡ low
-    → AreTurned r (length f.codes) (length f.codes * r) xs high → IsKept f low high arrows
+    → AreTurned r (length f.codes) (length f.codes * r) xs high → KeepsTables f low high arrows
 unfolding arrow_count
 kept_turned f r arrows low xs high finished have width is turned = record {
   finished = finished;

@@ -10,7 +10,7 @@ use Rattle.crystal_cartan.specs.declared.types.Arrow.{Arrow}
 use Rattle.std.specs.Option.{option_and_then}
 use Rattle.tensor_words.specs.Operators.{IsArrow, op}
 use Rattle.canonical_graph.specs.Graphs.{FinishedType, IsFinished, code_at, rank_in, target_rank, lowering, arrows_from}
-use Rattle.canonical_graph.specs.Tables.{entry, entry_at, arrow_to, row, HasRows, AreLowered, IsKept}
+use Rattle.canonical_graph.specs.Tables.{entry, entry_at, arrow_to, row, HasRows, AreLowered, KeepsTables}
 use Rattle.canonical_graph.proofs.Ranks.{target_below}
 
 pub in_row : (rank n r j : ℕ) → rank < n → j < r → rank * r + j < n * r
@@ -82,7 +82,7 @@ pub all_lowered : (f : FinishedType) (n count arrows : ℕ) (xs : List ℕ) → 
 all_lowered f n count arrows xs all have = rw all at have
 
 -- what stands in the table of a direction
-pub entry_in : (f : FinishedType) (low high : List ℕ) (arrows rank : ℕ) (a : Arrow) → IsKept f low high arrows → rank < length f.codes → IsArrow f.space a
+pub entry_in : (f : FinishedType) (low high : List ℕ) (arrows rank : ℕ) (a : Arrow) → KeepsTables f low high arrows → rank < length f.codes → IsArrow f.space a
     → get_or (if a.down then low else high) (rank * f.space.cartan.rank + (a.index - 1)) 0 ≡ entry (target_rank f rank a)
 entry_in f low high arrows rank a kept lt fits = by a.down a.index fits.index
   where
@@ -109,7 +109,7 @@ pub one_at_most : (b : Bool) → (if b then 1 else 0) ≤ 1
 one_at_most true = omega arith
 one_at_most false = omega arith
 
-pub entry_read : (f : FinishedType) (low high : List ℕ) (arrows rank t r : ℕ) (a : Arrow) → IsKept f low high arrows → rank < length f.codes
+pub entry_read : (f : FinishedType) (low high : List ℕ) (arrows rank t r : ℕ) (a : Arrow) → KeepsTables f low high arrows → rank < length f.codes
     → IsArrow f.space a → r ≡ f.space.cartan.rank → t ≡ get_or (if a.down then low else high) (rank * r + (a.index - 1)) 0 → t ≡ entry (target_rank f rank a)
 entry_read f low high arrows rank t r a kept lt fits width read = rw width at read ∙ entry_in f low high arrows rank a kept lt fits
 

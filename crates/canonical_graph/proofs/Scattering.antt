@@ -10,7 +10,7 @@ use Rattle.std.proofs.lemmas.List.Sorted.{IsPermutation-map}
 use Rattle.std.proofs.lemmas.Map.Keys.{apart_from_distinct}
 use Rattle.canonical_graph.specs.declared.numbering.PlacedCode.{PlacedCode}
 use Rattle.canonical_graph.specs.Graphs.{rank_in}
-use Rattle.canonical_graph.specs.Growth.{IsPlaced, IsSortedFrom, AreRanks, codes_in}
+use Rattle.canonical_graph.specs.Growth.{IsPlacedCode, IsSortedFrom, AreRanks, codes_in}
 use Rattle.canonical_graph.proofs.Growing.{sorted_from}
 use Rattle.canonical_graph.proofs.Ranks.{rank_of_place}
 
@@ -36,16 +36,16 @@ same_place found i j distinct low high same = elim (cases_lt i j) [
 code_in : (list : List PlacedCode) (n : ℕ) → n < length list → get_or (codes_in list) n 0 ≡ (get_or list n no_code).code
 code_in list n lt = get_or-map (λ x. x.code) list n no_code 0 lt
 
-pub placed_within : (found : List ℕ) (list : List PlacedCode) (n : ℕ) → All (IsPlaced found) list → n < length list → (get_or list n no_code).place < length found
+pub placed_within : (found : List ℕ) (list : List PlacedCode) (n : ℕ) → All (IsPlacedCode found) list → n < length list → (get_or list n no_code).place < length found
 placed_within found list n placed lt = (placed n no_code lt).within
 
-pub placed_code : (found : List ℕ) (list : List PlacedCode) (n : ℕ) → All (IsPlaced found) list → n < length list
+pub placed_code : (found : List ℕ) (list : List PlacedCode) (n : ℕ) → All (IsPlacedCode found) list → n < length list
     → get_or found (get_or list n no_code).place 0 ≡ get_or (codes_in list) n 0
 placed_code found list n placed lt = (placed n no_code lt).here ∙ sym (code_in list n lt)
 
 -- one more rank
 pub more_ranked : (found ranks : List ℕ) (list : List PlacedCode) (n : ℕ) → n < length list → IsDistinct nat_eq found → length ranks ≡ length found
-    → IsSortedFrom found (codes_in list) → All (IsPlaced found) list
+    → IsSortedFrom found (codes_in list) → All (IsPlacedCode found) list
     → ((k r : ℕ) → k < length found → r < n → get_or (codes_in list) r 0 ≡ get_or found k 0 → get_or ranks k 0 ≡ r)
     → (k r : ℕ) → k < length found → r < n + 1 → get_or (codes_in list) r 0 ≡ get_or found k 0 → get_or (slice_set ranks (get_or list n no_code).place n) k 0 ≡ r
 more_ranked found ranks list n lt distinct size sorted placed ranked k r within below here =
@@ -64,7 +64,7 @@ more_ranked found ranks list n lt distinct size sorted placed ranked k r within 
     x : PlacedCode
     x = get_or list n no_code
 
-    at : IsPlaced found (get_or list n no_code)
+    at : IsPlacedCode found (get_or list n no_code)
     at = placed n no_code lt
 
     own : get_or (codes_in list) n 0 ≡ (get_or list n no_code).code

@@ -77,7 +77,7 @@ abbrev pub codes_in : List PlacedCode → List ℕ
 codes_in list = map (λ x. x.code) list
 
 -- the code stands at its place among those found
-pub record IsPlaced (found : List ℕ) (x : PlacedCode) : Type 0 where
+pub record IsPlacedCode (found : List ℕ) (x : PlacedCode) : Type 0 where
   pub within : x.place < length found
   pub here : slice_index found x.place ≡ x.code
 
@@ -87,7 +87,7 @@ pub record AreRanks (codes found ranks : List ℕ) : Type 0 where
   pub rank : (k : ℕ) → k < length found → rank_in codes (slice_index found k) ≡ Some (slice_index ranks k)
 
 -- the first k roots are found, and nothing but roots
-pub record HasRoots (roots : List ℕ) (k : ℕ) (found : List ℕ) : Type 0 where
+pub record HasFirstRoots (roots : List ℕ) (k : ℕ) (found : List ℕ) : Type 0 where
   pub there : (j : ℕ) → j < k → Contains found (slice_index roots j)
   pub only : (c : ℕ) → Contains found c → Contains roots c
 
@@ -102,13 +102,13 @@ pub record IsFrontier (w : WorldType) (n : ℕ) (found : List ℕ) : Type 0 wher
   pub followed : (k : ℕ) → k < n → IsFollowed w.space w.space.cartan.rank (slice_index found k) found
 
 -- a growth that has ended: all that are found are expanded, and the notes are whole
-pub record IsWhole (w : WorldType) (found notes : List ℕ) : Type 0 where
+pub record IsWholeGrowth (w : WorldType) (found notes : List ℕ) : Type 0 where
   pub frontier : IsFrontier w (length found) found
   pub distinct : IsDistinct nat_eq found
   pub lowered : HasNexts w.space found (length found) notes
 
 -- what its graph is made from
-pub record IsEnded (s : SpaceType) (found notes : List ℕ) : Type 0 where
+pub record MakesGraph (s : SpaceType) (found notes : List ℕ) : Type 0 where
   pub space : IsSpace s
   pub below : (c : ℕ) → Contains found c → c < size s
   pub few : length found < 2 ^ 32
@@ -124,7 +124,7 @@ pub record IsSortedFrom (found codes : List ℕ) : Type 0 where
   pub all : (c : ℕ) → Contains found c → Contains codes c
 
 -- what a growth ends with where the cells suffice
-pub record IsGrown (w : WorldType) (codes : List ℕ) : Type 0 where
+pub record IsGrownList (w : WorldType) (codes : List ℕ) : Type 0 where
   pub finished : IsFinished (finished_graph w.space codes)
   pub listed : IsComponentList w codes
   pub fits : Outnumber w → ⊥

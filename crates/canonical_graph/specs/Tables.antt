@@ -36,7 +36,7 @@ pub record AreLowered (f : FinishedType) (n : ℕ) (entries : List ℕ) (arrows 
   pub counted : arrows ≡ sum_by (λ rank. arrows_from f rank) (range_with_len 0 n)
 
 -- what is kept of a finished graph beside its space and its codes
-pub record IsKept (f : FinishedType) (low high : List ℕ) (arrows : ℕ) : Type 0 where
+pub record KeepsTables (f : FinishedType) (low high : List ℕ) (arrows : ℕ) : Type 0 where
   pub finished : IsFinished f
   pub lowered : IsTable f true (length f.codes) low
   pub raised : IsTable f false (length f.codes) high

@@ -5,7 +5,7 @@ ghost use Rattle.tensor_words.specs.Spaces.{IsSpace, size};
 ghost use Rattle.tensor_words.specs.Codes.{IsWord};
 ghost use Rattle.tensor_words.specs.Operators.{IsArrow};
 ghost use Rattle.canonical_graph.specs.Graphs.{IsFinished, IsClosedList, finished_graph, code_at, rank_in, target_rank, arrow_count};
-ghost use Rattle.canonical_graph.specs.Tables.{IsKept};
+ghost use Rattle.canonical_graph.specs.Tables.{KeepsTables};
 ghost use Rattle.canonical_graph.specs.Texts.{vertex_word};
 
 use crate::lowering::lowered_of;
@@ -27,13 +27,13 @@ pub struct Finished {
 
 impl Model for Finished {
     ghost use Rattle.canonical_graph.specs.Graphs.{FinishedType, finished_graph};
-    ghost use Rattle.canonical_graph.specs.Tables.{IsKept};
+    ghost use Rattle.canonical_graph.specs.Tables.{KeepsTables};
 
     ghost Value = { FinishedType };
 
     ghost view = { λ f. finished_graph f.steps f.codes.items };
 
-    ghost invariant = { λ f. IsKept (finished_graph f.steps f.codes.items) f.targets.lowered.items f.targets.raised.items f.targets.arrows };
+    ghost invariant = { λ f. KeepsTables (finished_graph f.steps f.codes.items) f.targets.lowered.items f.targets.raised.items f.targets.arrows };
 }
 
 impl Finished {
@@ -136,7 +136,7 @@ impl Finished {
 
     /// The graph of these codes with its tables.
     pub(crate) fn of_parts(steps: Steps, codes: Vec<u64>, targets: Targets) -> Finished
-        requires { IsKept (finished_graph steps codes.items) targets.lowered.items targets.raised.items targets.arrows }
+        requires { KeepsTables (finished_graph steps codes.items) targets.lowered.items targets.raised.items targets.arrows }
         ensures { result ≡ finished_graph steps codes.items }
     {
         Finished {

@@ -9,7 +9,7 @@ use std::marker::Model;
 
 /// Different codes in the order in which they were found.
 #[derive(Drop)]
-pub(crate) struct Found {
+pub(crate) struct FoundCodes {
     codes: IndexSet<u64>,
 }
 
@@ -20,7 +20,7 @@ pub(crate) struct Entry {
     pub(crate) is_new: bool,
 }
 
-impl Model for Found {
+impl Model for FoundCodes {
     ghost use Rattle.std.specs.Prelude.{List, ℕ, nat_eq};
     ghost use Rattle.std.specs.List.{IsDistinct};
 
@@ -31,11 +31,11 @@ impl Model for Found {
     ghost invariant = { λ f. IsDistinct nat_eq f.codes.keys };
 }
 
-impl Found {
-    pub(crate) fn new(alloc: Global) -> Found
+impl FoundCodes {
+    pub(crate) fn new(alloc: Global) -> FoundCodes
         ensures { result ≡ [] }
     {
-        Found {
+        FoundCodes {
             codes: IndexSet::new(alloc),
         }
     }

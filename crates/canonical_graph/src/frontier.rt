@@ -3,7 +3,7 @@ ghost use Rattle.std.specs.Prelude.{◌≡◌, ◌+◌, ◌<◌, ◌≤◌, ◌^
 ghost use Rattle.canonical_graph.specs.Growth.{Follows, IsNote, noted_in};
 ghost use Rattle.canonical_graph.specs.Marks.{GrowsMarks, marked_in};
 
-use crate::found::Found;
+use crate::found::FoundCodes;
 use std::alloc::{AllocError, Global};
 
 /// The note of an operator that gives zero.
@@ -12,7 +12,7 @@ pub(crate) const NO_PLACE: u32 = u32::MAX;
 /// The codes that a growth found, in the order in which it found them, and what is known of the operators on them.
 #[derive(Drop)]
 pub(crate) struct Growth {
-    pub(crate) found: Found,
+    pub(crate) found: FoundCodes,
     /// What the lowering operators give: a row for each expanded code, with a note for each index, the place among
     /// those found.
     pub(crate) lowered: Vec<u32>,

@@ -7,11 +7,11 @@ ghost use Rattle.tensor_words.specs.Codes.{IsWord, code_of};
 ghost use Rattle.tensor_words.specs.TensorRule.{action};
 ghost use Rattle.tensor_words.specs.Reach.{IsComponentList, Outnumber};
 ghost use Rattle.signature_rule.specs.Places.{ArePlaces};
-ghost use Rattle.canonical_graph.specs.Growth.{Expands, HasRoots, IsWhole, IsEnded, IsGrown, IsSortedFrom, AreNotes, AddsNotes};
+ghost use Rattle.canonical_graph.specs.Growth.{Expands, HasFirstRoots, IsWholeGrowth, MakesGraph, IsGrownList, IsSortedFrom, AreNotes, AddsNotes};
 ghost use Rattle.canonical_graph.specs.Marks.{AreMarks};
 
 use crate::finished::Finished;
-use crate::found::Found;
+use crate::found::FoundCodes;
 use crate::frontier::Growth;
 use crate::lowering::lowered_of_growth;
 use crate::numbering::{codes_of, ranks_of, sorted};
@@ -45,7 +45,7 @@ pub fn grow_plain(alloc: Global, world: &World) -> Result<Finished, PlainFault>
 
 /// The graph that grows from the roots, `None` where the reached words outnumber the cells.
 fn grown_graph(alloc: Global, world: &World) -> Result<Option<Finished>, AllocError>
-    ensures { IfOk result (λ grown. MatchOption grown (Outnumber world.now) (λ f. IsGrown world.now f.codes × (f.space ≡ world.now.space))) }
+    ensures { IfOk result (λ grown. MatchOption grown (Outnumber world.now) (λ f. IsGrownList world.now f.codes × (f.space ≡ world.now.space))) }
 {
     let steps = Steps::new(alloc, *world.space())?;
     match grown(alloc, world, &steps)? {
@@ -57,7 +57,7 @@ fn grown_graph(alloc: Global, world: &World) -> Result<Option<Finished>, AllocEr
 /// The growth from the roots, `None` where the reached words outnumber the cells.
 fn grown(alloc: Global, world: &World, steps: &Steps) -> Result<Option<Growth>, AllocError>
     requires { steps.now ≡ world.now.space }
-    ensures { IfOk result (λ grown. MatchOption grown (Outnumber world.now) (λ g. IsWhole world.now g.found g.lowered.items)) }
+    ensures { IfOk result (λ grown. MatchOption grown (Outnumber world.now) (λ g. IsWholeGrowth world.now g.found g.lowered.items)) }
 {
     let cells = world.cells() as usize;
     let mut growth = rooted(alloc, world)?;
@@ -74,7 +74,7 @@ fn grown(alloc: Global, world: &World, steps: &Steps) -> Result<Option<Growth>, 
 
 /// The graph of a growth that has ended.
 fn finished_growth(alloc: Global, steps: Steps, growth: &Growth) -> Result<Finished, AllocError>
-    requires { IsEnded steps growth.now.found growth.now.lowered.items }
+    requires { MakesGraph steps growth.now.found growth.now.lowered.items }
     ensures codes { IfOk result (λ f. IsSortedFrom growth.now.found f.codes) }
     ensures space { IfOk result (λ f. f.space ≡ steps) }
 {
@@ -88,11 +88,11 @@ fn finished_growth(alloc: Global, steps: Steps, growth: &Growth) -> Result<Finis
 
 /// A growth that has found the roots.
 fn rooted(alloc: Global, world: &World) -> Result<Growth, AllocError>
-    ensures roots { IfOk result (λ g. HasRoots world.now.roots (length world.now.roots) g.found) }
+    ensures roots { IfOk result (λ g. HasFirstRoots world.now.roots (length world.now.roots) g.found) }
     ensures lowered { IfOk result (λ g. g.lowered.items ≡ []) }
     ensures known { IfOk result (λ g. AreMarks world.now.space g.found g.known.items) }
 {
-    let mut found = Found::new(alloc);
+    let mut found = FoundCodes::new(alloc);
     add_roots(world, &mut found)?;
     let known = vec![in alloc; [false; 8]; found.len()]?;
     Ok(Growth {
@@ -102,9 +102,9 @@ fn rooted(alloc: Global, world: &World) -> Result<Growth, AllocError>
     })
 }
 
-fn add_roots(world: &World, found: &mut Found) -> Result<(), AllocError>
+fn add_roots(world: &World, found: &mut FoundCodes) -> Result<(), AllocError>
     requires { found.old ≡ [] }
-    ensures { OnOk result (HasRoots world.now.roots (length world.now.roots) found.new) }
+    ensures { OnOk result (HasFirstRoots world.now.roots (length world.now.roots) found.new) }
 {
     let roots = world.roots();
     'roots: for k in 0..roots.len() {

@@ -4,7 +4,7 @@ ghost use Rattle.std.specs.Option.{option_and_then};
 ghost use Rattle.std.specs.List.Sorted.{IsStrictlyIncreasing};
 ghost use Rattle.canonical_graph.specs.Graphs.{IsFinished, finished_graph, rank_in, arrows_from};
 ghost use Rattle.canonical_graph.specs.Tables.{AreLowered, entry, row};
-ghost use Rattle.canonical_graph.specs.Growth.{HasNexts, AreRanks, IsNote, IsPlaced, noted_in, codes_in};
+ghost use Rattle.canonical_graph.specs.Growth.{HasNexts, AreRanks, IsNote, IsPlacedCode, noted_in, codes_in};
 
 use crate::frontier::{Growth, NO_PLACE};
 use crate::numbering::{PlacedCode, rank_among};
@@ -42,7 +42,7 @@ pub(crate) fn lowered_of_growth(
     ranks: &[u32],
 ) -> Result<Lowered, AllocError>
     requires finished { IsFinished (finished_graph steps.now (codes_in list.now)) }
-    requires placed { All (IsPlaced growth.now.found) list.now }
+    requires placed { All (IsPlacedCode growth.now.found) list.now }
     requires lowered { HasNexts steps.now growth.now.found (length growth.now.found) growth.now.lowered.items }
     requires ranks { AreRanks (codes_in list.now) growth.now.found ranks.now }
     ensures { IfOk result (λ t. AreLowered (finished_graph steps.now (codes_in list.now)) (length list.now) t.ranks.items t.arrows) }
@@ -98,7 +98,7 @@ impl Lowered {
     ) -> Result<(), AllocError>
         requires rank { rank < length list.now }
         requires room { self.old.arrows ≤ 2 ^ 40 }
-        requires placed { All (IsPlaced growth.now.found) list.now }
+        requires placed { All (IsPlacedCode growth.now.found) list.now }
         requires lowered { HasNexts steps.now growth.now.found (length growth.now.found) growth.now.lowered.items }
         requires ranks { AreRanks (codes_in list.now) growth.now.found ranks.now }
         ensures ranks { OnOk result (self.new.ranks.items ≡ self.old.ranks.items ++ row (finished_graph steps.now (codes_in list.now)) rank true steps.now.cartan.rank) }

@@ -3,9 +3,9 @@ ghost use Rattle.std.specs.Prelude.{◌≡◌, ◌^◌, ◌<◌, ◌≤◌, leng
 ghost use Rattle.std.specs.List.{IsDistinct};
 ghost use Rattle.std.specs.List.Sorted.{IsStrictlyIncreasing};
 ghost use Rattle.canonical_graph.specs.Graphs.{rank_in};
-ghost use Rattle.canonical_graph.specs.Growth.{IsPlaced, IsSortedFrom, AreRanks, codes_in};
+ghost use Rattle.canonical_graph.specs.Growth.{IsPlacedCode, IsSortedFrom, AreRanks, codes_in};
 
-use crate::found::Found;
+use crate::found::FoundCodes;
 use std::alloc::{AllocError, Global};
 
 /// A code that was found, with its place among those found, counted from 0.
@@ -16,10 +16,10 @@ pub(crate) struct PlacedCode {
 }
 
 /// The codes that were found, ascending, each with its place.
-pub(crate) fn sorted(alloc: Global, found: &Found) -> Result<Vec<PlacedCode>, AllocError>
+pub(crate) fn sorted(alloc: Global, found: &FoundCodes) -> Result<Vec<PlacedCode>, AllocError>
     requires { length found.now < 2 ^ 32 }
     ensures sorted { IfOk result (λ list. IsSortedFrom found.now (codes_in list.items)) }
-    ensures placed { IfOk result (λ list. All (IsPlaced found.now) list.items) }
+    ensures placed { IfOk result (λ list. All (IsPlacedCode found.now) list.items) }
 {
     let mut list = placed(alloc, found)?;
     list.sort_unstable_by_key(|x| x.code);
@@ -27,11 +27,11 @@ pub(crate) fn sorted(alloc: Global, found: &Found) -> Result<Vec<PlacedCode>, Al
 }
 
 /// The codes that were found, in the order in which they were found.
-fn placed(alloc: Global, found: &Found) -> Result<Vec<PlacedCode>, AllocError>
+fn placed(alloc: Global, found: &FoundCodes) -> Result<Vec<PlacedCode>, AllocError>
     requires { length found.now < 2 ^ 32 }
     ensures codes { IfOk result (λ list. codes_in list.items ≡ found.now) }
     ensures distinct { IfOk result (λ list. IsDistinct nat_eq (codes_in list.items)) }
-    ensures placed { IfOk result (λ list. All (IsPlaced found.now) list.items) }
+    ensures placed { IfOk result (λ list. All (IsPlacedCode found.now) list.items) }
 {
     let mut list = Vec::with_capacity(alloc, found.len())?;
     'found: for place in 0..found.len() {
@@ -57,12 +57,12 @@ pub(crate) fn codes_of(alloc: Global, list: &[PlacedCode]) -> Result<Vec<u64>, A
 /// The rank of each code that was found, in the order in which they were found.
 pub(crate) fn ranks_of(
     alloc: Global,
-    found: &Found,
+    found: &FoundCodes,
     list: &[PlacedCode],
 ) -> Result<Vec<u32>, AllocError>
     requires few { length list.now < 2 ^ 32 }
     requires sorted { IsSortedFrom found.now (codes_in list.now) }
-    requires placed { All (IsPlaced found.now) list.now }
+    requires placed { All (IsPlacedCode found.now) list.now }
     ensures { IfOk result (λ ranks. AreRanks (codes_in list.now) found.now ranks.items) }
 {
     let mut ranks = vec![in alloc; 0u32; found.len()]?;

@@ -1,7 +1,7 @@
 //! The arrows of a finished graph, by ranks.
 ghost use Rattle.std.specs.Prelude.{◌≡◌, ◌<◌, if◌then◌else◌, true, length, slice_index, IfOk};
 ghost use Rattle.canonical_graph.specs.Graphs.{IsFinished, finished_graph};
-ghost use Rattle.canonical_graph.specs.Tables.{IsKept, AreLowered};
+ghost use Rattle.canonical_graph.specs.Tables.{KeepsTables, AreLowered};
 
 use crate::lowering::Lowered;
 use crate::turning::turned;
@@ -31,7 +31,7 @@ impl Targets {
     ) -> Result<Targets, AllocError>
         requires finished { IsFinished (finished_graph steps.now codes.now) }
         requires lowered { AreLowered (finished_graph steps.now codes.now) (length codes.now) lowered.ranks.items lowered.arrows }
-        ensures { IfOk result (λ t. IsKept (finished_graph steps.now codes.now) t.lowered.items t.raised.items t.arrows) }
+        ensures { IfOk result (λ t. KeepsTables (finished_graph steps.now codes.now) t.lowered.items t.raised.items t.arrows) }
     {
         let Lowered { ranks, arrows } = lowered;
         let indices = steps.cartan().rank() as usize;

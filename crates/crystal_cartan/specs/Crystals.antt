@@ -35,8 +35,8 @@ pub record Action (E : Type 0) : Type 0 where
 
 -- how the index i acts in the crystal with these arrows: phi counts the arrows that follow each other from x,
 -- eps those that lead to x one after another; no string is longer than the list
-abbrev pub action : {E : Type 0} → (E → E → Bool) → List (Edge E) → ℕ → Action E
-action same edges i = record {
+abbrev pub edge_action : {E : Type 0} → (E → E → Bool) → List (Edge E) → ℕ → Action E
+edge_action same edges i = record {
   eps = times_taken (origin same edges i) (length edges);
   phi = times_taken (target same edges i) (length edges);
   lower = target same edges i;

@@ -78,7 +78,7 @@ IsWithin n x = (neg_ℤ (pos n) ≤ℤ x) × (x ≤ℤ pos n)
 
 -- every doubled coordinate is between -1,000 and 1,000
 abbrev pub IsSmallCoordinate : ℤ → Type 0
-IsSmallCoordinate x = (negsuc 999 ≤ℤ x) × (x ≤ℤ pos 1000)
+IsSmallCoordinate x = IsWithin 1000 x
 
 abbrev pub IsSmall : List ℤ → Type 0
 IsSmall w = All IsSmallCoordinate w

@@ -1,7 +1,7 @@
 //! Simple roots, pairings with simple coroots and reflections.
-ghost use Rattle.std.specs.Prelude.{◌≡◌, ℕ, ◌≤◌, length, pos, negsuc, ◌≤ℤ◌, ℤ, IsTrue, ◌↔◌};
+ghost use Rattle.std.specs.Prelude.{◌≡◌, ℕ, ◌≤◌, length, ℤ, IsTrue, ◌↔◌};
 ghost use Rattle.crystal_cartan.specs.Types.{HasIndex, coordinates};
-ghost use Rattle.crystal_cartan.specs.Weights.{root, root_at, unit_at, twice_pairing, IsPairing, reflection, IsWeight, IsSmall, IsDominant};
+ghost use Rattle.crystal_cartan.specs.Weights.{root, root_at, unit_at, twice_pairing, IsPairing, reflection, IsWeight, IsWithin, IsSmall, IsDominant};
 
 use crate::types::{Cartan, Kind};
 use crate::weights::Weight;
@@ -77,7 +77,7 @@ impl Cartan {
     fn root_at(&self, i: u8, j: u8) -> i32
         requires index { HasIndex self.now i }
         ensures value { result ≡ root_at self.now i j }
-        ensures small { (negsuc 1 ≤ℤ result) × (result ≤ℤ pos 2) }
+        ensures small { IsWithin 2 result }
     {
         let last = self.rank();
         if i < last {
@@ -98,7 +98,7 @@ impl Cartan {
         requires size { IsWeight self.now weight.now }
         requires small { IsSmall weight.now }
         ensures value { result ≡ twice_pairing self.now weight.now i }
-        ensures small { (negsuc 1999 ≤ℤ result) × (result ≤ℤ pos 2000) }
+        ensures small { IsWithin 2000 result }
     {
         let last = self.rank();
         if i < last {

@@ -17,7 +17,7 @@ use Rattle.parcel_deques.specs.Parcels.{IsHanded}
 use Rattle.parcel_deques.specs.Benches.{BenchValue}
 use Rattle.parcel_deques.proofs.Weights.{weigh-append}
 use Rattle.crystal_growers.specs.Growth.{Grew}
-use Rattle.crystal_growers.specs.Work.{HasDrawn, HasSpent}
+use Rattle.crystal_growers.specs.Work.{HasDrawn, SeatHasSpent}
 use Rattle.crystal_growers.specs.Shifts.{HasActed, HasWorked, HasOffered}
 use Rattle.crystal_growers.proofs.Parts.{none_in, head_or, has_or_not, rest_has}
 use Rattle.crystal_growers.proofs.Histories.{grew_none, grew_then, same_calls, filter_in}
@@ -70,7 +70,7 @@ acted_back g a b x p = record {
 pub acted_front : (g : GraphValue) (a b : SeatValue) (xs us : List Slip) → HasActed g a b xs us → IsPrefix a.view.front b.view.front
 acted_front g a b xs us p = (p.grew.more, p.grew.is)
 
-pub spent_later : (g : GraphValue) (a b : SeatValue) (xs us : List Slip) (x : ℕ) → HasActed g a b xs us → HasSpent a x → HasSpent b x
+pub spent_later : (g : GraphValue) (a b : SeatValue) (xs us : List Slip) (x : ℕ) → HasActed g a b xs us → SeatHasSpent a x → SeatHasSpent b x
 spent_later g a b xs us x p h =
     subst (λ (n : ℕ). Contains b.view.front (record { caller = n; act = Spent x })) (sym p.number)
     (subst (λ (l : List Event). Contains l (record { caller = a.view.number; act = Spent x })) (sym p.grew.is) (Contains-append_left a.view.front p.grew.more (record { caller = a.view.number; act = Spent x }) h))
@@ -99,7 +99,7 @@ module _ (g : GraphValue) (old now : SeatValue) (cells added : List ℕ) (full :
     ];
   }
 
-pub drawn_spent : (old now : SeatValue) (cells added : List ℕ) (x : ℕ) → HasDrawn cells old now added (Some x) → HasSpent now x
+pub drawn_spent : (old now : SeatValue) (cells added : List ℕ) (x : ℕ) → HasDrawn cells old now added (Some x) → SeatHasSpent now x
 drawn_spent old now cells added x d =
     let e : Event = record { caller = old.view.number; act = Spent x } in
     let own : Contains (calls d.worked.went.more old.view.number) e = subst (λ (l : List Event). Contains l e) (sym d.worked.went.own) (by_has old.view.number d.acts (Spent x) d.ended) in

@@ -13,7 +13,7 @@ use Rattle.crystal_growers.specs.declared.work.Ready.{Ready}
 use Rattle.crystal_growers.specs.declared.work.Stopped.{Stopped}
 use Rattle.crystal_growers.specs.Work.{HasDrawn, IsWaiting}
 use Rattle.crystal_growers.specs.Shifts.{HasWorked, HasPushed, HasOffered, HasRun, IsWorking, HasSwept, GoesOn}
-use Rattle.crystal_growers.specs.Workers.{HasStopped, HasFailed, IsRun, IsShared, IsDrawnBack, IsEndingOf}
+use Rattle.crystal_growers.specs.Workers.{HasStopped, HasFailed, IsParcelRun, IsOffered, IsDrawnBack, IsEndingOf}
 use Rattle.crystal_growers.proofs.Histories.{never_added}
 use Rattle.crystal_growers.proofs.Acting.{acted_then, acted_back, acted_drawn, acted_handed, owes_handed, works_none, works_then, works_drawn, offers_works}
 use Rattle.crystal_growers.proofs.Serving.{served_none, served_then, served_taken, served_pushed}
@@ -57,12 +57,12 @@ has_run g s mid d r b next x added full j h o = record {
 pub has_joined : (g : GraphValue) (s mid : SeatValue) (b : BenchValue) (x : Slip) → HasWorked g s mid (x ∷ []) [] → HasRun g s mid b b x
 has_joined g s mid b x j = record { given = []; pushed = λ i. record b { pushed = sym (append-nil b.pushed) i }; worked = j }
 
-pub run_of : (g : GraphValue) (s mid d : SeatValue) (b next : BenchValue) (x : Slip) (added : List ℕ) (full : Option ℕ) (r : Result Ready Stopped) → HasWorked g s mid (x ∷ []) [] → HasDrawn x.cells mid d added full → IsShared g d added b next r → IsRun g s b next x r
+pub run_of : (g : GraphValue) (s mid d : SeatValue) (b next : BenchValue) (x : Slip) (added : List ℕ) (full : Option ℕ) (r : Result Ready Stopped) → HasWorked g s mid (x ∷ []) [] → HasDrawn x.cells mid d added full → IsOffered g d added b next r → IsParcelRun g s b next x r
 run_of g s mid d b next x added full (Ok r) j h (offered, waits) = (has_run g s mid d r.seat b next x added full j h offered, waits)
 run_of g s mid d b next x added full (Err r) j h (offered, failed) = (has_run g s mid d r.seat b next x added full j h offered, failed)
 
 -- what came back was drawn besides
-pub shared_of : (g : GraphValue) (d mid : SeatValue) (b next : BenchValue) (added : List ℕ) (r : Result Ready Stopped) → HasOffered g d mid b next added → IsDrawnBack g mid r → IsShared g d added b next r
+pub shared_of : (g : GraphValue) (d mid : SeatValue) (b next : BenchValue) (added : List ℕ) (r : Result Ready Stopped) → HasOffered g d mid b next added → IsDrawnBack g mid r → IsOffered g d added b next r
 shared_of g d mid b next added (Ok r) o (worked, waits) = (offers_works g d mid r.seat b next added o worked, waits)
 shared_of g d mid b next added (Err r) o (worked, failed) = (offers_works g d mid r.seat b next added o worked, failed)
 

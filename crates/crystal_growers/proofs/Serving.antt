@@ -11,7 +11,7 @@ use Rattle.parcel_deques.specs.Benches.{BenchValue, HasAll, FoundOwnEmpty}
 use Rattle.parcel_deques.proofs.Weights.{weigh-append, weigh_ones}
 use Rattle.parcel_deques.proofs.Slips.{owned_same}
 use Rattle.crystal_growers.specs.Work.{IsWaiting, IsEnded}
-use Rattle.crystal_growers.specs.Shifts.{HasActed, HasWorked, IsServed, IsWorking, IsSweeping, GoesOn, HasSwept}
+use Rattle.crystal_growers.specs.Shifts.{HasActed, HasWorked, IsBenchServed, IsWorking, IsSweeping, GoesOn, HasSwept}
 use Rattle.crystal_growers.proofs.Acting.{works_none, works_then, spent_later}
 
 -- the slips of one owner
@@ -47,10 +47,10 @@ fewer_left b next x is same owner few =
     omega arith
 
 -- nothing was taken yet
-pub served_none : (b : BenchValue) → IsServed b b [] []
+pub served_none : (b : BenchValue) → IsBenchServed b b [] []
 served_none b = record { is = λ i. record b { pushed = sym (append-nil b.pushed) i }; taken = λ h. ap (λ (l : List Slip). weigh h l) (sym (append-nil b.taken)) }
 
-pub served_then : (a b c : BenchValue) (xs us ys vs : List Slip) → IsServed a b xs us → IsServed b c ys vs → IsServed a c (xs ++ ys) (us ++ vs)
+pub served_then : (a b c : BenchValue) (xs us ys vs : List Slip) → IsBenchServed a b xs us → IsBenchServed b c ys vs → IsBenchServed a c (xs ++ ys) (us ++ vs)
 served_then a b c xs us ys vs p q = record {
   is = q.is ∙ ap (λ (k : BenchValue). record k { pushed = k.pushed ++ vs; taken = c.taken; known = c.known }) p.is ∙ (λ i. record a { pushed = append_assoc a.pushed us vs i; taken = c.taken; known = c.known });
   taken = λ h.
@@ -59,10 +59,10 @@ served_then a b c xs us ys vs p q = record {
 }
 
 -- a slip was taken, or some were pushed
-pub served_taken : (old new : BenchValue) (x : Slip) → new ≡ record old { taken = new.taken; known = new.known } → SameItems new.taken (old.taken ++ x ∷ []) → IsServed old new (x ∷ []) []
+pub served_taken : (old new : BenchValue) (x : Slip) → new ≡ record old { taken = new.taken; known = new.known } → SameItems new.taken (old.taken ++ x ∷ []) → IsBenchServed old new (x ∷ []) []
 served_taken old new x is same = record { is = is ∙ (λ i. record old { pushed = sym (append-nil old.pushed) i; taken = new.taken; known = new.known }); taken = same }
 
-pub served_pushed : (old new : BenchValue) (given : List Slip) → new ≡ record old { pushed = old.pushed ++ given } → IsServed old new [] given
+pub served_pushed : (old new : BenchValue) (given : List Slip) → new ≡ record old { pushed = old.pushed ++ given } → IsBenchServed old new [] given
 served_pushed old new given is = record {
   is = is ∙ (λ i. record old { pushed = old.pushed ++ given; taken = sym taken i; known = sym known i });
   taken = λ h. ap (λ (l : List Slip). weigh h l) (taken ∙ sym (append-nil old.taken));
@@ -93,7 +93,7 @@ module _ (g : GraphValue) (first s mid now : SeatValue) (b0 b next : BenchValue)
   pub joined_works : HasWorked g first mid (got ++ x ∷ []) []
   joined_works = works_then g first s mid got [] (x ∷ []) [] p.worked joined
 
-  pub joined_served : IsServed b0 next (got ++ x ∷ []) []
+  pub joined_served : IsBenchServed b0 next (got ++ x ∷ []) []
   joined_served = served_then b0 b next got [] (x ∷ []) [] p.served (served_taken b next x known_is same)
 
   pub sweeping_next : HasWorked g mid now [] [] → IsSweeping g first now b0 next (got ++ x ∷ [])

@@ -52,7 +52,7 @@ pub record HasRun (g : GraphValue) (old now : SeatValue) (bench next : BenchValu
   pub worked : HasWorked g old now (x ∷ []) given
 
 -- what became of a bench: it took slips, and pushed some
-pub record IsServed (old new : BenchValue) (got given : List Slip) : Type 0 where
+pub record IsBenchServed (old new : BenchValue) (got given : List Slip) : Type 0 where
   pub is : new ≡ record old { pushed = old.pushed ++ given; taken = new.taken; known = new.known }
   pub taken : SameItems new.taken (old.taken ++ got)
 
@@ -61,12 +61,12 @@ pub record IsWorking (g : GraphValue) (old now : SeatValue) (bench next : BenchV
   pub got : List Slip
   pub given : List Slip
   pub worked : HasWorked g old now got given
-  pub served : IsServed bench next got given
+  pub served : IsBenchServed bench next got given
 
 -- the parcels that are left in a bench's deque were taken, and their seats joined
 pub record IsSweeping (g : GraphValue) (old now : SeatValue) (bench next : BenchValue) (got : List Slip) : Type 0 where
   pub worked : HasWorked g old now got []
-  pub served : IsServed bench next got []
+  pub served : IsBenchServed bench next got []
   pub owned : SameItems (owned_by bench.number next.taken) (owned_by bench.number bench.taken ++ got)
 
 -- cells were drawn unless some word had found no cell before: then that code is the answer

@@ -27,8 +27,8 @@ pub record HasDrawn (cells : List ℕ) (old now : SeatValue) (added : List ℕ) 
   pub paid : IsPaid (rest_of cells old.view.dues.unpaid) added now.view.dues.unpaid full
   pub ended : HasEnded (AreWhole old.view.world now.view.front cells) (λ x. Contains acts (Spent x)) full
 
-abbrev pub IsDrawn : List ℕ → SeatValue → Drawn → Type 0
-IsDrawn cells seat d = HasDrawn cells seat d.seat d.added.items d.full
+abbrev pub IsSeatDrawn : List ℕ → SeatValue → Drawn → Type 0
+IsSeatDrawn cells seat d = HasDrawn cells seat d.seat d.added.items d.full
 
 -- the cells wait at the seat: they can be drawn, and are all that is unpaid here; all else that it owes is whole
 pub record IsWaiting (g : GraphValue) (cells : List ℕ) (s : SeatValue) : Type 0 where
@@ -37,9 +37,9 @@ pub record IsWaiting (g : GraphValue) (cells : List ℕ) (s : SeatValue) : Type 
   pub covered : (c : ℕ) → Contains s.view.dues.owed c → IsWhole g.world (state_of s.view.front) c ⊎ Contains cells c
 
 -- the word with this code found no cell under the number of a seat that had not called before
-abbrev pub HasSpent : SeatValue → ℕ → Type 0
-HasSpent s x = Contains s.view.front (record { caller = s.view.number; act = Spent x })
+abbrev pub SeatHasSpent : SeatValue → ℕ → Type 0
+SeatHasSpent s x = Contains s.view.front (record { caller = s.view.number; act = Spent x })
 
 -- how it ended: these cells wait; or some word found no cell
 abbrev pub IsEnded : GraphValue → List ℕ → SeatValue → Option ℕ → Type 0
-IsEnded g cells s = HasEnded (IsWaiting g cells s) (HasSpent s)
+IsEnded g cells s = HasEnded (IsWaiting g cells s) (SeatHasSpent s)

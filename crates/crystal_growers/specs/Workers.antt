@@ -7,31 +7,31 @@ use Rattle.crystal_growers.specs.declared.work.Ending.{Ending}
 use Rattle.crystal_growers.specs.declared.work.Ending.TheVariants.{Done, Spent, NoMemory}
 use Rattle.crystal_growers.specs.declared.work.Ready.{Ready}
 use Rattle.crystal_growers.specs.declared.work.Stopped.{Stopped}
-use Rattle.crystal_growers.specs.Work.{IsWaiting, HasSpent}
+use Rattle.crystal_growers.specs.Work.{IsWaiting, SeatHasSpent}
 use Rattle.crystal_growers.specs.Shifts.{HasWorked, HasOffered, HasRun, IsWorking}
 
 -- why a grower stopped: it found its own deque empty, and nothing waits; a word found no cell; or for want of memory, of which
 -- nothing is said
 abbrev pub HasStopped : GraphValue → SeatValue → BenchValue → Ending → Type 0
 HasStopped g s b Done = IsWaiting g [] s × FoundOwnEmpty b
-HasStopped g s b (Spent x) = HasSpent s x
+HasStopped g s b (Spent x) = SeatHasSpent s x
 HasStopped g s b NoMemory = ⊤
 
 -- why a grower stops in a parcel
 abbrev pub HasFailed : SeatValue → Ending → Type 0
 HasFailed s Done = ⊥
-HasFailed s (Spent x) = HasSpent s x
+HasFailed s (Spent x) = SeatHasSpent s x
 HasFailed s NoMemory = ⊤
 
 -- a parcel was run, and nothing waits; or the grower stops
-abbrev pub IsRun : GraphValue → SeatValue → BenchValue → BenchValue → Slip → Result Ready Stopped → Type 0
-IsRun g s b next x (Ok r) = HasRun g s r.seat b next x × IsWaiting g [] r.seat
-IsRun g s b next x (Err r) = HasRun g s r.seat b next x × HasFailed r.seat r.ending
+abbrev pub IsParcelRun : GraphValue → SeatValue → BenchValue → BenchValue → Slip → Result Ready Stopped → Type 0
+IsParcelRun g s b next x (Ok r) = HasRun g s r.seat b next x × IsWaiting g [] r.seat
+IsParcelRun g s b next x (Err r) = HasRun g s r.seat b next x × HasFailed r.seat r.ending
 
 -- the cells that were added at the seat were offered, and what came back is drawn; or the grower stops
-abbrev pub IsShared : GraphValue → SeatValue → List ℕ → BenchValue → BenchValue → Result Ready Stopped → Type 0
-IsShared g s added b next (Ok r) = HasOffered g s r.seat b next added × IsWaiting g [] r.seat
-IsShared g s added b next (Err r) = HasOffered g s r.seat b next added × HasFailed r.seat r.ending
+abbrev pub IsOffered : GraphValue → SeatValue → List ℕ → BenchValue → BenchValue → Result Ready Stopped → Type 0
+IsOffered g s added b next (Ok r) = HasOffered g s r.seat b next added × IsWaiting g [] r.seat
+IsOffered g s added b next (Err r) = HasOffered g s r.seat b next added × HasFailed r.seat r.ending
 
 -- what came back is drawn; or the grower stops
 abbrev pub IsDrawnBack : GraphValue → SeatValue → Result Ready Stopped → Type 0

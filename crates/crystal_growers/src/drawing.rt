@@ -1,6 +1,6 @@
 //! Cells that are drawn at a seat.
 ghost use Rattle.std.specs.Prelude.{◌≡◌, ◌≤◌, [], length, MatchResult, IfOk, IfErr};
-ghost use Rattle.crystal_growers.specs.Work.{CanDraw, IsDrawn, IsWaiting};
+ghost use Rattle.crystal_growers.specs.Work.{CanDraw, IsSeatDrawn, IsWaiting};
 ghost use Rattle.crystal_growers.specs.Shifts.{HasWorked, IsDrawnOut};
 
 use crate::growth::expand_all;
@@ -33,7 +33,7 @@ pub(crate) fn draw_few(
 ) -> Result<Drawn, NoRoom>
     requires can { CanDraw graph.now cells.now seat }
     requires few { length cells.now ≤ 64 }
-    ensures { MatchResult result (λ d. IsDrawn cells.now seat d) (λ e. e.seat ≡ seat) }
+    ensures { MatchResult result (λ d. IsSeatDrawn cells.now seat d) (λ e. e.seat ≡ seat) }
 {
     let rank = graph.world().space().cartan().rank() as usize;
     let room = cells.len() * (2 * rank);
@@ -60,7 +60,7 @@ pub(crate) fn draw_all(
     hints: Hints,
 ) -> Result<Drawn, NoRoom>
     requires { CanDraw graph.now cells.now seat }
-    ensures ok { IfOk result (λ d. IsDrawn cells.now seat d) }
+    ensures ok { IfOk result (λ d. IsSeatDrawn cells.now seat d) }
     ensures fault { IfErr result (λ e. HasWorked graph.now seat e.seat [] []) }
 {
     let mut seat = seat;

@@ -4,7 +4,7 @@ ghost use Rattle.graph_rule.specs.Values.{Belongs};
 ghost use Rattle.parcel_deques.specs.Lists.{SameItems};
 ghost use Rattle.parcel_deques.specs.Benches.{FoundOwnEmpty};
 ghost use Rattle.crystal_growers.specs.Work.{IsWaiting, IsEnded};
-ghost use Rattle.crystal_growers.specs.Workers.{IsRun, IsShared, IsDrawnBack, IsShift, IsEndingOf};
+ghost use Rattle.crystal_growers.specs.Workers.{IsParcelRun, IsOffered, IsDrawnBack, IsShift, IsEndingOf};
 
 use crate::drawing::{Drawn, draw_few, draw_out};
 use crate::hints::Hints;
@@ -94,7 +94,7 @@ fn run<J: Naming>(
 ) -> Result<Ready, Stopped>
     requires named { J.graph ≡ graph.now }
     requires free { IsWaiting graph.now [] seat }
-    ensures { IsRun graph.now seat bench.old bench.new parcel result }
+    ensures { IsParcelRun graph.now seat bench.old bench.new parcel result }
 {
     let mut seat = seat;
     let cells = take_in(graph, &mut seat, parcel);
@@ -118,7 +118,7 @@ fn share<J: Naming>(
     requires belongs { Belongs drawn.seat graph.now }
     requires pledge { drawn.seat.view.dues.pledge ≡ 0 }
     requires ended { IsEnded graph.now drawn.added.items drawn.seat drawn.full }
-    ensures { IsShared graph.now drawn.seat drawn.added.items bench.old bench.new result }
+    ensures { IsOffered graph.now drawn.seat drawn.added.items bench.old bench.new result }
 {
     let Drawn {
         mut seat,

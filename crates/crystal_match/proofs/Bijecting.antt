@@ -19,7 +19,7 @@ use Rattle.crystal_match.specs.Relabelling.{relabelled}
 use Rattle.crystal_match.specs.Listings.{pair_at, pair_eq, firsts, seconds}
 use Rattle.crystal_match.specs.Telling.{PointedType, IsPointed, IsFirstTelling}
 use Rattle.crystal_match.specs.Matching.{AreSame, PairsOutnumber}
-use Rattle.crystal_match.specs.Search.{walk_at, AreWalks, numbered, number, IsSettled, IsSearch, IsEnded}
+use Rattle.crystal_match.specs.Search.{walk_at, AreWalks, numbered, number, IsSettled, IsSearch, IsSearchEnded}
 use Rattle.crystal_match.proofs.PairLists.{pair_equiv, same_pair, pair_place, in_map, from_map}
 use Rattle.crystal_match.proofs.Relabels.{rank_some, relabelled_path, path_twice}
 use Rattle.crystal_match.proofs.Back.{walk-nil, walk-cons, walk-none, back, back_path, walk_below, walk_back, back_relabelled}
@@ -295,7 +295,7 @@ module _ (m : PointedType) (is : IsPointed m) (at end : ℕ) (found : List (ℕ 
     }
 
 -- what a search that has ended answers
-pub closed_answer : (m both : PointedType) (limit : ℕ) (s : Search) (pairs : List (ℕ × ℕ)) → both ≡ m → IsPointed both → IsEnded both limit Closed s
+pub closed_answer : (m both : PointedType) (limit : ℕ) (s : Search) (pairs : List (ℕ × ℕ)) → both ≡ m → IsPointed both → IsSearchEnded both limit Closed s
     → IsPermutation s.found pairs → IsNonDecreasingBy (λ x. x.0) pairs → AreSame m pairs × (PairsOutnumber m limit → ⊥)
 closed_answer m both limit s pairs own is ended order rising =
     let P : PointedType → Type 0 = λ b. AreSame b pairs × (PairsOutnumber b limit → ⊥) in
@@ -304,7 +304,7 @@ closed_answer m both limit s pairs own is ended order rising =
       closed_few both is s.at s.end s.found s.origins.items ended.0 ended.1 limit ended.2,
     )
 
-pub told_answer : (m both : PointedType) (limit : ℕ) (a : Arrow) (s : Search) (walk : List Arrow) → both ≡ m → IsPointed both → IsEnded both limit (Told a) s
+pub told_answer : (m both : PointedType) (limit : ℕ) (a : Arrow) (s : Search) (walk : List Arrow) → both ≡ m → IsPointed both → IsSearchEnded both limit (Told a) s
     → ((walks : List (List Arrow)) → AreWalks s.origins.items walks → walk ≡ walk_at walks s.at ++ a ∷ []) → IsFirstTelling m walk × (PairsOutnumber m limit → ⊥)
 told_answer m both limit a s walk own is ended kept =
     let P : PointedType → Type 0 = λ b. IsFirstTelling b walk × (PairsOutnumber b limit → ⊥) in
@@ -313,7 +313,7 @@ told_answer m both limit a s walk own is ended kept =
       told_few both is a s ended.0 limit ended.1,
     )
 
-pub many_answer : (m both : PointedType) (limit : ℕ) (s : Search) → both ≡ m → IsPointed both → IsEnded both limit TooMany s → PairsOutnumber m limit
+pub many_answer : (m both : PointedType) (limit : ℕ) (s : Search) → both ≡ m → IsPointed both → IsSearchEnded both limit TooMany s → PairsOutnumber m limit
 many_answer m both limit s own is ended =
     subst (λ (b : PointedType). PairsOutnumber b limit) own
     (too_many both is limit s.at s.end s.found s.origins.items ended.0 ended.1 ended.2 ended.3 ended.4)

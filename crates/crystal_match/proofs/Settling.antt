@@ -7,14 +7,14 @@ use Rattle.tensor_words.specs.Reach.{IsPath, walk}
 use Rattle.crystal_match.specs.declared.search.Origin.{Origin}
 use Rattle.crystal_match.specs.Relabelling.{relabelled}
 use Rattle.crystal_match.specs.Listings.{pair_at}
-use Rattle.crystal_match.specs.Telling.{PointedType, AreApart, Tells, first_end, second_end}
+use Rattle.crystal_match.specs.Telling.{PointedType, AreEndsApart, Tells, first_end, second_end}
 use Rattle.signature_rule.specs.ArrowOrder.{arrow_place}
-use Rattle.crystal_match.specs.Search.{walk_at, numbered, number, next_number, IsSettled, IsFollowed, IsSearch}
+use Rattle.crystal_match.specs.Search.{walk_at, numbered, number, next_number, IsSettled, IsTried, IsSearch}
 use Rattle.crystal_match.proofs.Numbers.{digit_less, digit_most, numbered_grows}
 use Rattle.crystal_match.proofs.Back.{walk-nil, walk-none, walk-cons}
 
 -- whether the search has followed an arrow from a pair
-followed_or_not : (n at j place : ℕ) → IsFollowed n at j place ⊎ ((at < j) ⊎ ((j ≡ at) × (n ≤ place)))
+followed_or_not : (n at j place : ℕ) → IsTried n at j place ⊎ ((at < j) ⊎ ((j ≡ at) × (n ≤ place)))
 followed_or_not n at j place = elim (cases_lt j at) [
   | inl before ↦ inl (inl before)
   | inr over ↦ elim (cases_eq j at) [
@@ -81,7 +81,7 @@ module _ (m : PointedType) (n at end : ℕ) (found : List (ℕ × ℕ)) (origins
   ]
 
   -- what is settled does not tell the marks apart
-  pub settled_untold : (k : ℕ) (first second : Option ℕ) → IsSettled m found s.walks k first second → AreApart m first second → ⊥
+  pub settled_untold : (k : ℕ) (first second : Option ℕ) → IsSettled m found s.walks k first second → AreEndsApart m first second → ⊥
   settled_untold k first second (inl none) apart = let here = rw (none.0, none.1) at apart in here
   settled_untold k first second (inr f) apart = let here = rw (f.is_first, f.is_second) at apart in s.untold f.place f.within here
 

@@ -11,9 +11,9 @@ use Rattle.signature_rule.proofs.Paths.{path-push}
 use Rattle.crystal_match.specs.declared.search.Origin.{Origin}
 use Rattle.crystal_match.specs.Relabelling.{relabelled}
 use Rattle.crystal_match.specs.Listings.{pair_at, no_arrow}
-use Rattle.crystal_match.specs.Telling.{PointedType, IsPointed, AreApart}
+use Rattle.crystal_match.specs.Telling.{PointedType, IsPointed, AreEndsApart}
 use Rattle.signature_rule.specs.ArrowOrder.{arrow_place}
-use Rattle.crystal_match.specs.Search.{IsEntered, walk_at, origin_at, AreWalks, number, next_number, Leads, IsSettled, IsFollowed, IsSearch, Follows}
+use Rattle.crystal_match.specs.Search.{IsEntered, walk_at, origin_at, AreWalks, number, next_number, Leads, IsSettled, IsTried, IsSearch, FollowsPair}
 use Rattle.crystal_match.proofs.Numbers.{place_below, same_arrow, numbered-push}
 use Rattle.crystal_match.proofs.Relabels.{rank_some, relabelled_path}
 use Rattle.crystal_match.proofs.Back.{walk-nil, walk-push, walk_below, map-push}
@@ -25,7 +25,7 @@ last_or xs x j low = elim (cases_lt j (length xs)) [
   | inr over ↦ inr (omega (arith, over, low, length-append xs (x ∷ [])))
 ]
 
-was_followed : (n at j place : ℕ) → IsFollowed (n + 1) at j place → IsFollowed n at j place ⊎ ((j ≡ at) × (place ≡ n))
+was_followed : (n at j place : ℕ) → IsTried (n + 1) at j place → IsTried n at j place ⊎ ((j ≡ at) × (place ≡ n))
 was_followed n at j place (inl before) = inl (inl before)
 was_followed n at j place (inr (here, low)) = elim (cases_lt place n) [
   | inl done ↦ inl (inr (here, done))
@@ -54,14 +54,14 @@ begun m is = record {
     start : Leads m [] (m.first, m.second)
     start = record { arrows = tt; first = walk-nil m.space m.first; second = walk-nil m.space m.second }
 
-    alike : AreApart m (Some m.first) (Some m.second) → ⊥
+    alike : AreEndsApart m (Some m.first) (Some m.second) → ⊥
     alike (inl h) = h.1 refl
     alike (inr h) = h.0 refl
 
     some : 1 ≤ m.space.cartan.rank
     some = rank_some m is
 
-    not_followed : (j place : ℕ) → IsFollowed 0 0 j place → ⊥
+    not_followed : (j place : ℕ) → IsTried 0 0 j place → ⊥
     not_followed j place (inl low) = omega (arith, low)
     not_followed j place (inr h) = omega (arith, h.1)
 
@@ -93,7 +93,7 @@ module _ (m : PointedType) (at end : ℕ) (found : List (ℕ × ℕ)) (origins :
     longer = s.longer;
   }
     where
-      earlier : (j : ℕ) (a : Arrow) → IsArrow m.space a → IsFollowed 0 (at + 1) j (arrow_place m.space.cartan.rank a) → IsFollowed n at j (arrow_place m.space.cartan.rank a)
+      earlier : (j : ℕ) (a : Arrow) → IsArrow m.space a → IsTried 0 (at + 1) j (arrow_place m.space.cartan.rank a) → IsTried n at j (arrow_place m.space.cartan.rank a)
       earlier j a fits (inl before) = elim (cases_lt j at) [
         | inl old ↦ inl old
         | inr over ↦ inr (omega (arith, before, over), omega (arith, all, place_below m.space a fits))
@@ -148,7 +148,7 @@ module _ (m : PointedType) (at end : ℕ) (found : List (ℕ × ℕ)) (origins :
       longer = s.longer;
     }
       where
-        settled : (j : ℕ) (b : Arrow) → j < length found → IsArrow m.space b → IsFollowed (n + 1) at j (arrow_place m.space.cartan.rank b)
+        settled : (j : ℕ) (b : Arrow) → j < length found → IsArrow m.space b → IsTried (n + 1) at j (arrow_place m.space.cartan.rank b)
             → IsSettled m found s.walks (next_number m s.walks j (arrow_place m.space.cartan.rank b)) (op m.space b (pair_at found j).0) (op m.space (relabelled m.relabel b) (pair_at found j).1)
         settled j b within is followed = elim (was_followed n at j (arrow_place m.space.cartan.rank b) followed) [
           | inl old ↦ s.settled j b within is old
@@ -168,7 +168,7 @@ module _ (m : PointedType) (at end : ℕ) (found : List (ℕ × ℕ)) (origins :
 
     -- the arrow leads to a new pair
     push : (x y : ℕ) → op m.space a (pair_at found at).0 ≡ Some x → op m.space (relabelled m.relabel a) (pair_at found at).1 ≡ Some y
-        → (AreApart m (Some x) (Some y) → ⊥)
+        → (AreEndsApart m (Some x) (Some y) → ⊥)
         → IsSearch m (n + 1) at end (found ++ (x, y) ∷ []) (origins ++ (record { from = at; arrow = a }) ∷ [])
     push x y is_x is_y alike = record {
       walks = longer_walks;
@@ -230,7 +230,7 @@ module _ (m : PointedType) (at end : ℕ) (found : List (ℕ × ℕ)) (origins :
         ]
 
         untold : (j : ℕ) → j < length (found ++ (x, y) ∷ [])
-            → AreApart m (Some (pair_at (found ++ (x, y) ∷ []) j).0) (Some (pair_at (found ++ (x, y) ∷ []) j).1) → ⊥
+            → AreEndsApart m (Some (pair_at (found ++ (x, y) ∷ []) j).0) (Some (pair_at (found ++ (x, y) ∷ []) j).1) → ⊥
         untold j within = elim (last_or found (x, y) j within) [
           | inl old ↦ rw (old_pair j old) (s.untold j old)
           | inr new ↦ rw (new_pair j new) alike
@@ -269,7 +269,7 @@ module _ (m : PointedType) (at end : ℕ) (found : List (ℕ × ℕ)) (origins :
           early = let same = ap (λ (p : List Arrow). number m p) (new_walk (length found) refl) in omega (arith, same, own_number);
         })
 
-        settled : (j : ℕ) (b : Arrow) → j < length (found ++ (x, y) ∷ []) → IsArrow m.space b → IsFollowed (n + 1) at j (arrow_place m.space.cartan.rank b)
+        settled : (j : ℕ) (b : Arrow) → j < length (found ++ (x, y) ∷ []) → IsArrow m.space b → IsTried (n + 1) at j (arrow_place m.space.cartan.rank b)
             → IsSettled m (found ++ (x, y) ∷ []) longer_walks (next_number m longer_walks j (arrow_place m.space.cartan.rank b)) (op m.space b (pair_at (found ++ (x, y) ∷ []) j).0) (op m.space (relabelled m.relabel b) (pair_at (found ++ (x, y) ∷ []) j).1)
         settled j b within is followed =
             elim (was_followed n at j (arrow_place m.space.cartan.rank b) followed) [
@@ -282,7 +282,7 @@ module _ (m : PointedType) (at end : ℕ) (found : List (ℕ × ℕ)) (origins :
                   rw (same, new.0, place, old_next at n there, old_pair at there) own_settled
             ]
           where
-            begun_before : IsFollowed n at j (arrow_place m.space.cartan.rank b) → j < length found
+            begun_before : IsTried n at j (arrow_place m.space.cartan.rank b) → j < length found
             begun_before (inl before) = omega (arith, before, there)
             begun_before (inr here) = omega (arith, here.0, there)
 
@@ -325,8 +325,8 @@ module _ (m : PointedType) (at end : ℕ) (found : List (ℕ × ℕ)) (origins :
 
     -- one more arrow is followed
     pub follow_on : (first second : Option ℕ) (new : List (ℕ × ℕ)) (later : List Origin) → op m.space a (pair_at found at).0 ≡ first
-        → op m.space (relabelled m.relabel a) (pair_at found at).1 ≡ second → (AreApart m first second → ⊥)
-        → Follows at a first second found origins new later → IsSearch m (n + 1) at end new later
+        → op m.space (relabelled m.relabel a) (pair_at found at).1 ≡ second → (AreEndsApart m first second → ⊥)
+        → FollowsPair at a first second found origins new later → IsSearch m (n + 1) at end new later
     follow_on None None new later is_x is_y alike same = rw (same.0, same.1) (stay (inl (is_x, is_y)))
     follow_on None (Some y) new later is_x is_y alike same = absurd (alike tt)
     follow_on (Some x) None new later is_x is_y alike same = absurd (alike tt)
@@ -358,7 +358,7 @@ pair_below m is n at end found origins s j low =
 
 -- what was found stays where it is
 pub pair_stays : (at : ℕ) (a : Arrow) (first second : Option ℕ) (found : List (ℕ × ℕ)) (origins : List Origin) (new : List (ℕ × ℕ)) (later : List Origin)
-    → Follows at a first second found origins new later → at < length found → pair_at new at ≡ pair_at found at
+    → FollowsPair at a first second found origins new later → at < length found → pair_at new at ≡ pair_at found at
 pair_stays at a None second found origins new later same low = ap (λ (xs : List (ℕ × ℕ)). pair_at xs at) same.0
 pair_stays at a (Some x) None found origins new later same low = ap (λ (xs : List (ℕ × ℕ)). pair_at xs at) same.0
 pair_stays at a (Some x) (Some y) found origins new later (inl old) low = ap (λ (xs : List (ℕ × ℕ)). pair_at xs at) old.0
@@ -369,11 +369,11 @@ pair_stays at a (Some x) (Some y) found origins new later (inr fresh) low =
 pub expand_on : (m both : PointedType) (n at end rank : ℕ) (pair : ℕ × ℕ) (found : List (ℕ × ℕ)) (origins : List Origin) (new : List (ℕ × ℕ)) (later : List Origin)
     (a : Arrow) (first second : Option ℕ) → both ≡ m → rank ≡ m.space.cartan.rank → IsSearch m n at end found origins → at < end → pair ≡ pair_at found at
     → 1 ≤ a.index → a.index ≤ rank → arrow_place rank a ≡ n → first ≡ op m.space a pair.0 → second ≡ op m.space (relabelled m.relabel a) pair.1
-    → (AreApart both first second → ⊥) → Follows at a first second found origins new later → IsSearch both (n + 1) at end new later
+    → (AreEndsApart both first second → ⊥) → FollowsPair at a first second found origins new later → IsSearch both (n + 1) at end new later
 expand_on m both n at end rank pair found origins new later a first second own is_rank s low is_pair lo hi place is_first is_second alike follows =
     subst (λ (b : PointedType). IsSearch b (n + 1) at end new later) (sym own)
     (follow_on m at end found origins n a s low (record { index = record { low = lo; high = omega (arith, hi, is_rank) } })
     (ap (λ r. arrow_place r a) (sym is_rank) ∙ place) first second new later
     (ap (λ (p : ℕ × ℕ). op m.space a p.0) (sym is_pair) ∙ sym is_first)
     (ap (λ (p : ℕ × ℕ). op m.space (relabelled m.relabel a) p.1) (sym is_pair) ∙ sym is_second)
-    (subst (λ (b : PointedType). AreApart b first second → ⊥) own alike) follows)
+    (subst (λ (b : PointedType). AreEndsApart b first second → ⊥) own alike) follows)

@@ -10,7 +10,7 @@ use Rattle.crystal_match.specs.declared.search.SearchEnd.{SearchEnd}
 use Rattle.crystal_match.specs.declared.search.SearchEnd.TheVariants.{Closed, Told, TooMany}
 use Rattle.crystal_match.specs.Relabelling.{relabelled}
 use Rattle.crystal_match.specs.Listings.{pair_at, pair_eq, no_arrow}
-use Rattle.crystal_match.specs.Telling.{PointedType, first_end, second_end, AreApart}
+use Rattle.crystal_match.specs.Telling.{PointedType, first_end, second_end, AreEndsApart}
 use Rattle.signature_rule.specs.ArrowOrder.{arrow_place}
 
 -- a pair is entered into a list: as a new one behind the others, or it was there already
@@ -65,8 +65,8 @@ abbrev pub IsSettled : PointedType → List (ℕ × ℕ) → List (List Arrow) �
 IsSettled m found walks n first second = ((first ≡ None) × (second ≡ None)) ⊎ IsFoundBy m found walks n first second
 
 -- the search has followed the arrows of all pairs before `at`, and of the pair at `at` the first n
-abbrev pub IsFollowed : ℕ → ℕ → ℕ → ℕ → Type 0
-IsFollowed n at j place = (j < at) ⊎ ((j ≡ at) × (place < n))
+abbrev pub IsTried : ℕ → ℕ → ℕ → ℕ → Type 0
+IsTried n at j place = (j < at) ⊎ ((j ≡ at) × (place < n))
 
 -- a search that has not told the marks apart yet
 pub record IsSearch (m : PointedType) (n at end : ℕ) (found : List (ℕ × ℕ)) (origins : List Origin) : Type 0 where
@@ -77,12 +77,12 @@ pub record IsSearch (m : PointedType) (n at end : ℕ) (found : List (ℕ × ℕ
   pub within : end ≤ length found
   pub marks : pair_at found 0 ≡ (m.first, m.second)
   pub leads : (j : ℕ) → j < length found → Leads m (walk_at walks j) (pair_at found j)
-  pub untold : (j : ℕ) → j < length found → AreApart m (Some (pair_at found j).0) (Some (pair_at found j).1) → ⊥
+  pub untold : (j : ℕ) → j < length found → AreEndsApart m (Some (pair_at found j).0) (Some (pair_at found j).1) → ⊥
   -- the kept lists rise, and all come before the next one to be tried
   pub rising : (i j : ℕ) → i < j → j < length found → number m (walk_at walks i) < number m (walk_at walks j)
   pub early : (j : ℕ) → at < length found → j < length found → number m (walk_at walks j) < next_number m walks at n
   pub settled :
-      (j : ℕ) (a : Arrow) → j < length found → IsArrow m.space a → IsFollowed n at j (arrow_place m.space.cartan.rank a) →
+      (j : ℕ) (a : Arrow) → j < length found → IsArrow m.space a → IsTried n at j (arrow_place m.space.cartan.rank a) →
       IsSettled m found walks (next_number m walks j (arrow_place m.space.cartan.rank a)) (op m.space a (pair_at found j).0) (op m.space (relabelled m.relabel a) (pair_at found j).1)
   -- the pairs from `at` to `end` are those that are first reached by lists of one length; those before are reached by
   -- shorter ones, those behind by lists with one arrow more
@@ -95,25 +95,25 @@ abbrev pub IsSearching : PointedType → ℕ → Search → Type 0
 IsSearching m n s = IsSearch m n s.at s.end s.found s.origins.items
 
 -- what following an arrow from the pair at `at` to these ends makes of the lists
-abbrev pub Follows : ℕ → Arrow → Option ℕ → Option ℕ → List (ℕ × ℕ) → List Origin → List (ℕ × ℕ) → List Origin → Type 0
-Follows at a (Some x) (Some y) found origins new later =
+abbrev pub FollowsPair : ℕ → Arrow → Option ℕ → Option ℕ → List (ℕ × ℕ) → List Origin → List (ℕ × ℕ) → List Origin → Type 0
+FollowsPair at a (Some x) (Some y) found origins new later =
     ((new ≡ found) × (later ≡ origins) × Contains found (x, y))
     ⊎ ((new ≡ found ++ (x, y) ∷ []) × (later ≡ origins ++ (record { from = at; arrow = a }) ∷ []))
-Follows at a (Some x) None found origins new later = (new ≡ found) × (later ≡ origins)
-Follows at a None second found origins new later = (new ≡ found) × (later ≡ origins)
+FollowsPair at a (Some x) None found origins new later = (new ≡ found) × (later ≡ origins)
+FollowsPair at a None second found origins new later = (new ≡ found) × (later ≡ origins)
 
 -- the arrow tells the marks apart behind the list that is kept for the pair at `at`, and nothing before it does
 pub record IsTold (m : PointedType) (a : Arrow) (s : Search) : Type 0 where
   pub search : IsSearching m (arrow_place m.space.cartan.rank a) s
   pub at : s.at < s.end
   pub arrow : IsArrow m.space a
-  pub apart : AreApart m (op m.space a (pair_at s.found s.at).0) (op m.space (relabelled m.relabel a) (pair_at s.found s.at).1)
+  pub apart : AreEndsApart m (op m.space a (pair_at s.found s.at).0) (op m.space (relabelled m.relabel a) (pair_at s.found s.at).1)
 
 -- how a search ends
-abbrev pub IsEnded : PointedType → ℕ → SearchEnd → Search → Type 0
-IsEnded m limit Closed s = IsSearching m 0 s × (s.at ≡ length s.found) × (length s.found ≤ limit) × IsDistinct pair_eq s.found
-IsEnded m limit (Told a) s = IsTold m a s × (s.end ≤ limit)
-IsEnded m limit TooMany s = IsSearching m 0 s × (s.at ≡ s.end) × (s.at < length s.found) × (limit < length s.found) × IsDistinct pair_eq s.found
+abbrev pub IsSearchEnded : PointedType → ℕ → SearchEnd → Search → Type 0
+IsSearchEnded m limit Closed s = IsSearching m 0 s × (s.at ≡ length s.found) × (length s.found ≤ limit) × IsDistinct pair_eq s.found
+IsSearchEnded m limit (Told a) s = IsTold m a s × (s.end ≤ limit)
+IsSearchEnded m limit TooMany s = IsSearching m 0 s × (s.at ≡ s.end) × (s.at < length s.found) × (limit < length s.found) × IsDistinct pair_eq s.found
 
 -- some lists of arrows are kept by the origins
 pub record HasWalks (origins : List Origin) : Type 0 where

@@ -32,16 +32,16 @@ abbrev pub second_end : PointedType → List Arrow → Option ℕ
 second_end m path = walk m.space (map (relabelled m.relabel) path) m.second
 
 -- exactly one of the two ends is a word; or both are words and exactly one is its start
-abbrev pub AreApart : PointedType → Option ℕ → Option ℕ → Type 0
-AreApart m None None = ⊥
-AreApart m (Some x) None = ⊤
-AreApart m None (Some y) = ⊤
-AreApart m (Some x) (Some y) = ((x ≡ m.first) × (y ≢ m.second)) ⊎ ((x ≢ m.first) × (y ≡ m.second))
+abbrev pub AreEndsApart : PointedType → Option ℕ → Option ℕ → Type 0
+AreEndsApart m None None = ⊥
+AreEndsApart m (Some x) None = ⊤
+AreEndsApart m None (Some y) = ⊤
+AreEndsApart m (Some x) (Some y) = ((x ≡ m.first) × (y ≢ m.second)) ⊎ ((x ≢ m.first) × (y ≡ m.second))
 
 -- a list of arrows of the type tells the two marks apart
 pub record Tells (m : PointedType) (path : List Arrow) : Type 0 where
   pub arrows : IsPath m.space path
-  pub apart : AreApart m (first_end m path) (second_end m path)
+  pub apart : AreEndsApart m (first_end m path) (second_end m path)
 
 -- the places of arrows in the order f_1, .., f_r, e_1, .., e_r
 abbrev pub arrow_places : PointedType → List Arrow → List ℕ

@@ -3,7 +3,7 @@ ghost use Rattle.std.specs.Prelude.{◌≡◌, ◌<◌, ◌≤◌, ◌↔◌, Is
 ghost use Rattle.tensor_words.specs.Spaces.{size, IsSpace};
 ghost use Rattle.tensor_words.specs.Operators.{IsArrow, op};
 ghost use Rattle.crystal_match.specs.Relabelling.{relabelled};
-ghost use Rattle.crystal_match.specs.Telling.{pointed, AreApart, IsPointed};
+ghost use Rattle.crystal_match.specs.Telling.{pointed, AreEndsApart, IsPointed};
 
 use crate::relabelling::Relabel;
 use crystal_cartan::Arrow;
@@ -92,7 +92,7 @@ impl Both {
 
     /// Whether two ends tell the marks apart.
     pub(crate) fn tells(&self, ends: Ends) -> bool
-        ensures { IsTrue result ↔ AreApart self.now ends.0 ends.1 }
+        ensures { IsTrue result ↔ AreEndsApart self.now ends.0 ends.1 }
     {
         match ends {
             (None, None) => false,

@@ -7,7 +7,7 @@ ghost use Rattle.std.specs.List.Sorted.{IsPermutation, IsNonDecreasingBy};
 ghost use Rattle.crystal_cartan.specs.declared.types.Arrow.{Arrow as ArrowType};
 ghost use Rattle.crystal_match.specs.Telling.{IsPointed};
 ghost use Rattle.signature_rule.specs.ArrowOrder.{arrow_place};
-ghost use Rattle.crystal_match.specs.Search.{IsSearching, IsTold, IsEnded, Follows, HasWalks, AreWalks, walk_at};
+ghost use Rattle.crystal_match.specs.Search.{IsSearching, IsTold, IsSearchEnded, FollowsPair, HasWalks, AreWalks, walk_at};
 
 use crate::both::{Both, Ends};
 use crate::found::FoundPairs;
@@ -66,7 +66,7 @@ impl Search {
     pub(crate) fn run(&mut self, both: &mut Both, limit: u32) -> Result<SearchEnd, AllocError>
         requires begun { IsSearching both.old 0 self.old }
         requires end { self.old.end ≡ 0 }
-        ensures { IfOk result (λ ending. IsEnded both.old limit ending self.new) }
+        ensures { IfOk result (λ ending. IsSearchEnded both.old limit ending self.new) }
     {
         'levels: while self.at < self.found.len() {
             if self.at == self.end {
@@ -106,7 +106,7 @@ impl Search {
 
     /// Adds the pair to which an arrow leads from the pair at `at`, where both ends are words.
     fn follow(&mut self, arrow: Arrow, ends: Ends) -> Result<(), AllocError>
-        ensures follows { OnOk result (Follows self.old.at arrow ends.0 ends.1 self.old.found self.old.origins.items self.new.found self.new.origins.items) }
+        ensures follows { OnOk result (FollowsPair self.old.at arrow ends.0 ends.1 self.old.found self.old.origins.items self.new.found self.new.origins.items) }
         ensures at { self.new.at ≡ self.old.at }
         ensures end { self.new.end ≡ self.old.end }
     {

@@ -26,7 +26,7 @@ use Rattle.crystal_shell.specs.Statistics.{AreReports, Reporter, statistics_text
 use Rattle.graph_runs.specs.Runs.{Ends, Holds, IsHistory}
 use Rattle.graph_runs.specs.declared.run.Held.{Held}
 use Rattle.crystal_shell.proofs.Parts.{reports_told}
-use Rattle.crystal_shell.specs.Answers.{Compares, Counts, Grows, Samples, census_limit, count_full, count_listed, grow_full, grow_refused, grow_whole, marked, match_few, match_full, match_refused, match_told, relabel_of, run_status, sample_full, sample_whole}
+use Rattle.crystal_shell.specs.Answers.{CallsForMatch, CallsForCensus, CallsForGraph, CallsForSample, census_limit, count_full, count_listed, grow_full, grow_refused, grow_whole, marked, match_few, match_full, match_refused, match_told, relabel_of, run_status, sample_full, sample_whole}
 use Rattle.crystal_shell.specs.declared.inputs.Input.{Input}
 use Rattle.crystal_shell.specs.declared.inputs.Input.TheVariants.{Refused, Taken}
 use Rattle.crystal_shell.specs.declared.outcomes.Status.{Status}
@@ -35,35 +35,35 @@ use Rattle.crystal_shell.specs.declared.outcomes.Status.TheVariants.{Done, Full,
 -- ---- refused jobs
 
 grows_refused : (reporters : List Reporter) (places : List ℕ) (line fault : ℕ) (s : Status) (f : List Event) (k : Option Held) (x : List ℕ) → s ≡ JobRefused → f ≡ [] → k ≡ None
-    → x ≡ job_refusal line fault → Grows reporters places (Refused line fault) s f k x
+    → x ≡ job_refusal line fault → CallsForGraph reporters places (Refused line fault) s f k x
 grows_refused reporters places line fault s f k x status front none text =
-    let base : Grows reporters places (Refused line fault) JobRefused [] None (job_refusal line fault) = grow_refused line fault in
+    let base : CallsForGraph reporters places (Refused line fault) JobRefused [] None (job_refusal line fault) = grow_refused line fault in
     rw (status, front, none, text) base
 
-compares_refused : (r : Relabelling) (line fault : ℕ) (s : Status) (x : List ℕ) → s ≡ JobRefused → x ≡ job_refusal line fault → Compares r (Refused line fault) s x
+compares_refused : (r : Relabelling) (line fault : ℕ) (s : Status) (x : List ℕ) → s ≡ JobRefused → x ≡ job_refusal line fault → CallsForMatch r (Refused line fault) s x
 compares_refused r line fault s x status text =
-    let base : Compares r (Refused line fault) JobRefused (job_refusal line fault) = match_refused line fault in
+    let base : CallsForMatch r (Refused line fault) JobRefused (job_refusal line fault) = match_refused line fault in
     rw (status, text) base
 
-compares_few : (r : Relabelling) (job : Job) (s : Status) (x : List ℕ) → length job.starts < 2 → s ≡ JobRefused → x ≡ job_refusal 0 16 → Compares r (Taken job) s x
+compares_few : (r : Relabelling) (job : Job) (s : Status) (x : List ℕ) → length job.starts < 2 → s ≡ JobRefused → x ≡ job_refusal 0 16 → CallsForMatch r (Taken job) s x
 compares_few r job s x few status text =
-    let base : Compares r (Taken job) JobRefused (job_refusal 0 16) = match_few job few in
+    let base : CallsForMatch r (Taken job) JobRefused (job_refusal 0 16) = match_few job few in
     rw (status, text) base
 
 pub refusal_grows : (reporters : List Reporter) (places : List ℕ) (input : Input) (line fault : ℕ) (s : Status) (f : List Event) (k : Option Held) (a : Answer) → input ≡ Refused line fault
-    → s ≡ JobRefused → f ≡ [] → k ≡ None → a ≡ answer.JobRefused line fault → Grows reporters places input s f k (answer_bytes a)
+    → s ≡ JobRefused → f ≡ [] → k ≡ None → a ≡ answer.JobRefused line fault → CallsForGraph reporters places input s f k (answer_bytes a)
 refusal_grows reporters places input line fault s f k a is status front none told =
-    subst (λ (i : Input). Grows reporters places i s f k (answer_bytes a)) (sym is)
+    subst (λ (i : Input). CallsForGraph reporters places i s f k (answer_bytes a)) (sym is)
     (grows_refused reporters places line fault s f k (answer_bytes a) status front none (ap answer_bytes told))
 
 pub refusal_compares : (relabelling : Relabelling) (input : Input) (line fault : ℕ) (s : Status) (a : Answer) → input ≡ Refused line fault
-    → s ≡ JobRefused → a ≡ answer.JobRefused line fault → Compares relabelling input s (answer_bytes a)
+    → s ≡ JobRefused → a ≡ answer.JobRefused line fault → CallsForMatch relabelling input s (answer_bytes a)
 refusal_compares relabelling input line fault s a is status told =
-    subst (λ (i : Input). Compares relabelling i s (answer_bytes a)) (sym is)
+    subst (λ (i : Input). CallsForMatch relabelling i s (answer_bytes a)) (sym is)
     (compares_refused relabelling line fault s (answer_bytes a) status (ap answer_bytes told))
 
 pub few_compares : (relabelling : Relabelling) (job : Job) (s : Status) (a : Answer) → length job.starts < 2
-    → s ≡ JobRefused → a ≡ answer.JobRefused 0 16 → Compares relabelling (Taken job) s (answer_bytes a)
+    → s ≡ JobRefused → a ≡ answer.JobRefused 0 16 → CallsForMatch relabelling (Taken job) s (answer_bytes a)
 few_compares relabelling job s a few status told = compares_few relabelling job s (answer_bytes a) few status (ap answer_bytes told)
 
 -- ---- grow
@@ -71,17 +71,17 @@ few_compares relabelling job s a few status told = compares_few relabelling job 
 pub whole_grows : (reporters : List Reporter) (places : List ℕ) (job : Job) (f : FinishedType) (start : ℕ) (front : List Event) (held : Held) (told : List (List Reply)) (whole : Whole)
     → IsHistory job.world job.starts job.scripts front told → Ends job.world front (Some f) → Holds job.world held.graph held.seat front
     → start ≡ slice_index job.starts 0 → whole.finished ≡ f → AreReports reporters places (items_of f) whole.reports.items → AreAnswers f start job.asks whole.asks.items
-    → Grows reporters places (Taken job) Done front (Some held) (whole_text whole.finished told (reports_text whole.reports.items) (asks_text whole.finished whole.asks.items))
+    → CallsForGraph reporters places (Taken job) Done front (Some held) (whole_text whole.finished told (reports_text whole.reports.items) (asks_text whole.finished whole.asks.items))
 whole_grows reporters places job f start front held told whole history ends holds at same reports asked =
-    let base : Grows reporters places (Taken job) Done front (Some held) (whole_text f told (statistics_text reporters places (items_of f)) (asks_text f whole.asks.items)) =
+    let base : CallsForGraph reporters places (Taken job) Done front (Some held) (whole_text f told (statistics_text reporters places (items_of f)) (asks_text f whole.asks.items)) =
     grow_whole job f front held told whole.asks.items (record { history = history; ends = ends; holds = holds }) (subst (λ (c : ℕ). AreAnswers f c job.asks whole.asks.items) at asked) in
     rw (same, reports_told reporters places (items_of f) whole.reports.items reports) base
 
 pub full_grows : (reporters : List Reporter) (places : List ℕ) (job : Job) (space : SpaceType) (front : List Event) (held : Held) (told : List (List Reply))
     → IsHistory job.world job.starts job.scripts front told → Ends job.world front None → Holds job.world held.graph held.seat front
-    → space ≡ job.world.space → Grows reporters places (Taken job) Full front (Some held) (full_text space told)
+    → space ≡ job.world.space → CallsForGraph reporters places (Taken job) Full front (Some held) (full_text space told)
 full_grows reporters places job space front held told history ends holds here =
-    let base : Grows reporters places (Taken job) Full front (Some held) (full_text job.world.space told) =
+    let base : CallsForGraph reporters places (Taken job) Full front (Some held) (full_text job.world.space told) =
     grow_full job front held told (record { history = history; ends = ends; holds = holds }) in
     rw here base
 
@@ -89,27 +89,27 @@ full_grows reporters places job space front held told history ends holds here =
 
 pub run_sampled : (number : ℕ) (job : Job) (graph : Option FinishedType) (front : List Event) (held : Held) (told : List (List Reply)) (s : Status) (t : CartanType)
     → judge (sample number) ≡ Ok job → IsHistory job.world job.starts job.scripts front told → Ends job.world front graph → Holds job.world held.graph held.seat front
-    → s ≡ run_status graph → t ≡ job.world.space.cartan → Samples number s front (Some held) (sample_answer number t 4 256 (sizes_line graph))
+    → s ≡ run_status graph → t ≡ job.world.space.cartan → CallsForSample number s front (Some held) (sample_answer number t 4 256 (sizes_line graph))
 run_sampled number job (Some f) front held told s t judged history ends holds status kind =
-    let base : Samples number Done front (Some held) (sample_answer number job.world.space.cartan 4 256 (graph_head f)) =
+    let base : CallsForSample number Done front (Some held) (sample_answer number job.world.space.cartan 4 256 (graph_head f)) =
     sample_whole job f front held told judged (record { history = history; ends = ends; holds = holds }) in
     rw (status, kind) base
 run_sampled number job None front held told s t judged history ends holds status kind =
-    let base : Samples number Full front (Some held) (sample_answer number job.world.space.cartan 4 256 full_line) =
+    let base : CallsForSample number Full front (Some held) (sample_answer number job.world.space.cartan 4 256 full_line) =
     sample_full job front held told judged (record { history = history; ends = ends; holds = holds }) in
     rw (status, kind) base
 
 -- ---- census
 
 pub listed_counts : (shape : ShapeType) (list : List ℕ) (s : Status) (a : Answer) → IsListed shape census_limit list → s ≡ Done → a ≡ answer.Tableaux shape (Some list)
-    → Counts shape s (answer_bytes a)
+    → CallsForCensus shape s (answer_bytes a)
 listed_counts shape list s a is status told =
-    let base : Counts shape Done (census_text shape list) = count_listed list is in
+    let base : CallsForCensus shape Done (census_text shape list) = count_listed list is in
     rw (status, told) base
 
-pub many_counts : (shape : ShapeType) (s : Status) (a : Answer) → IsTooLarge shape census_limit → s ≡ Full → a ≡ answer.Tableaux shape None → Counts shape s (answer_bytes a)
+pub many_counts : (shape : ShapeType) (s : Status) (a : Answer) → IsTooLarge shape census_limit → s ≡ Full → a ≡ answer.Tableaux shape None → CallsForCensus shape s (answer_bytes a)
 many_counts shape s a many status told =
-    let base : Counts shape Full (full_census_text shape.cartan) = count_full many in
+    let base : CallsForCensus shape Full (full_census_text shape.cartan) = count_full many in
     rw (status, told) base
 
 -- ---- match
@@ -127,14 +127,14 @@ module _ (r : Relabelling) (job : Job) (m : PointedType) (limit : ℕ) (t : Cart
   fits_job fits more = fits (subst (λ (n : ℕ). PairsOutnumber m n) (sym cells) (subst (λ (p : PointedType). PairsOutnumber p job.world.cells) (sym is) more))
 
   pub verdict_compares : (verdict : Verdict) → IsVerdict m verdict → (PairsOutnumber m limit → ⊥) → s ≡ Done → a ≡ answer.Comparison t (Some verdict)
-      → Compares r (Taken job) s (answer_bytes a)
+      → CallsForMatch r (Taken job) s (answer_bytes a)
   verdict_compares verdict found fits status told =
       let own : IsVerdict (marked r job) verdict = subst (λ (p : PointedType). IsVerdict p verdict) is found in
-      let base : Compares r (Taken job) Done (match_text job.world.space.cartan (verdict_line (Some verdict))) = match_told job verdict two own (fits_job fits) in
+      let base : CallsForMatch r (Taken job) Done (match_text job.world.space.cartan (verdict_line (Some verdict))) = match_told job verdict two own (fits_job fits) in
       rw (status, told, kind) base
 
-  pub many_compares : PairsOutnumber m limit → s ≡ Full → a ≡ answer.Comparison t None → Compares r (Taken job) s (answer_bytes a)
+  pub many_compares : PairsOutnumber m limit → s ≡ Full → a ≡ answer.Comparison t None → CallsForMatch r (Taken job) s (answer_bytes a)
   many_compares many status told =
       let own : PairsOutnumber (marked r job) job.world.cells = subst (λ (n : ℕ). PairsOutnumber (marked r job) n) cells (subst (λ (p : PointedType). PairsOutnumber p limit) is many) in
-      let base : Compares r (Taken job) Full (match_text job.world.space.cartan (verdict_line None)) = match_full job two own in
+      let base : CallsForMatch r (Taken job) Full (match_text job.world.space.cartan (verdict_line None)) = match_full job two own in
       rw (status, told, kind) base

@@ -25,7 +25,7 @@ use Rattle.crystal_shell.specs.Inputs.{judged_input}
 use Rattle.graph_runs.specs.Runs.{IsHistory}
 use Rattle.graph_runs.specs.declared.run.Held.{Held}
 use Rattle.crystal_shell.proofs.Histories.{IsGraph, ended_full, ended_graph}
-use Rattle.crystal_shell.specs.Answers.{Compares, Counts, Grows, IsRunOf, Samples, call_census, call_grow, call_match, call_refused, call_sample, census_limit, count_full, count_listed, grow_full, grow_refused, grow_whole, marked, match_few, match_full, match_refused, match_told, sample_full, sample_whole}
+use Rattle.crystal_shell.specs.Answers.{CallsForMatch, CallsForCensus, CallsForGraph, IsRunOf, CallsForSample, call_census, call_grow, call_match, call_refused, call_sample, census_limit, count_full, count_listed, grow_full, grow_refused, grow_whole, marked, match_few, match_full, match_refused, match_told, sample_full, sample_whole}
 use Rattle.crystal_shell.specs.Laws.{AnswersAreDetermined}
 use Rattle.crystal_shell.specs.declared.inputs.Input.{Input}
 use Rattle.crystal_shell.specs.declared.outcomes.Status.{Status}
@@ -70,8 +70,8 @@ told_one job o o' front front' held held' told told' same p q = replies_one job.
 ended_both : (job : Job) (f : FinishedType) (front front' : List Event) (held held' : Held) (told told' : List (List Reply)) → IsRunOf job (Some f) front held told → IsRunOf job None front' held' told' → ⊥
 ended_both job f front front' held held' told told' p q = (ended_graph job.world front f p.ends).fits (ended_full job.world front' q.ends)
 
-grows_one : (reporters : List Reporter) (places : List ℕ) (input : Input) (s t : Status) (f g : List Event) (k l : Option Held) (x y : List ℕ) → Grows reporters places input s f k x
-    → Grows reporters places input t g l y → AreOne s t f g x y
+grows_one : (reporters : List Reporter) (places : List ℕ) (input : Input) (s t : Status) (f g : List Event) (k l : Option Held) (x y : List ℕ) → CallsForGraph reporters places input s f k x
+    → CallsForGraph reporters places input t g l y → AreOne s t f g x y
 grows_one reporters places input s t f g k l x y (grow_refused line fault) (grow_refused line' fault') = (refl, λ same. refl)
 grows_one reporters places input s t f g k l x y (grow_whole job a front held told answers run asked) (grow_whole job' b front' held' told' answers' run' asked') = (
   refl,
@@ -91,7 +91,7 @@ jobs_one number job job' p q =
     let both : Ok job' ≡ Ok job = sym q ∙ p in
     cc
 
-samples_one : (number : ℕ) (s t : Status) (f g : List Event) (k l : Option Held) (x y : List ℕ) → Samples number s f k x → Samples number t g l y → AreOne s t f g x y
+samples_one : (number : ℕ) (s t : Status) (f g : List Event) (k l : Option Held) (x y : List ℕ) → CallsForSample number s f k x → CallsForSample number t g l y → AreOne s t f g x y
 samples_one number s t f g k l x y (sample_whole job a front held told judged run) (sample_whole job' b front' held' told' judged' run') =
     let own : IsRunOf job (Some b) front' held' told' = subst (λ (j : Job). IsRunOf j (Some b) front' held' told') (jobs_one number job job' judged judged') run' in (
       refl,
@@ -107,13 +107,13 @@ samples_one number s t f g k l x y (sample_full job front held told judged run) 
 samples_one number s t f g k l x y (sample_full job front held told judged run) (sample_full job' front' held' told' judged' run') =
     (refl, λ same. ap (λ (j : Job). sample_answer number j.world.space.cartan 4 256 full_line) (sym (jobs_one number job job' judged judged')))
 
-counts_one : (shape : ShapeType) (s t : Status) (x y : List ℕ) → Counts shape s x → Counts shape t y → (s ≡ t) × (x ≡ y)
+counts_one : (shape : ShapeType) (s t : Status) (x y : List ℕ) → CallsForCensus shape s x → CallsForCensus shape t y → (s ≡ t) × (x ≡ y)
 counts_one shape s t x y (count_listed list is) (count_listed other is') = (refl, ap (census_text shape) (list_unique shape census_limit list other is is'))
 counts_one shape s t x y (count_listed list is) (count_full many) = absurd (not_both shape census_limit list is many)
 counts_one shape s t x y (count_full many) (count_listed list is) = absurd (not_both shape census_limit list is many)
 counts_one shape s t x y (count_full many) (count_full many') = (refl, refl)
 
-compares_one : (r : Relabelling) (input : Input) (s t : Status) (x y : List ℕ) → Compares r input s x → Compares r input t y → (s ≡ t) × (x ≡ y)
+compares_one : (r : Relabelling) (input : Input) (s t : Status) (x y : List ℕ) → CallsForMatch r input s x → CallsForMatch r input t y → (s ≡ t) × (x ≡ y)
 compares_one r input s t x y (match_refused line fault) (match_refused line' fault') = (refl, refl)
 compares_one r input s t x y (match_few job few) (match_few job' few') = (refl, refl)
 compares_one r input s t x y (match_few job few) (match_told job' verdict two found fits) = absurd (omega (arith, few, two))

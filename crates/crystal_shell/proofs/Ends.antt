@@ -9,7 +9,7 @@ use Rattle.answer_text.specs.Texts.{words_refusal}
 use Rattle.crystal_shell.specs.Statistics.{Reporter, names_of}
 use Rattle.crystal_shell.specs.Heard.{asks_for_job, heard_in}
 use Rattle.crystal_shell.specs.Inputs.{IsInput, job_limit, judged_input}
-use Rattle.crystal_shell.specs.Answers.{CallsFor, Compares, Counts, Grows, Samples, call_census, call_grow, call_match, call_refused, call_sample, status_number}
+use Rattle.crystal_shell.specs.Answers.{CallsFor, CallsForMatch, CallsForCensus, CallsForGraph, CallsForSample, call_census, call_grow, call_match, call_refused, call_sample, status_number}
 use Rattle.crystal_shell.specs.Runs.{Called, HasRead, IsRun, IsWritten}
 use Rattle.crystal_shell.specs.declared.hearing.Heard.{Heard}
 use Rattle.crystal_shell.specs.declared.hearing.Heard.TheVariants.{Census, Grow, Match, Refused, Sample}
@@ -26,43 +26,43 @@ some_input (Some left) = (left, refl)
 
 module _ (reporters : List Reporter) (words : List (List ℕ)) (left : Option (List ℕ)) (heard : Heard) (is : heard ≡ heard_in words (names_of reporters)) where
   called : (s : Status) (f : List Event) (k : Option Held) (x input : List ℕ) → IsInput left input → CallsFor reporters input heard s f k x → Called reporters words left s f k x
-  called s f k x input had calls = record { input = input; had = had; calls = subst (λ (h : Heard). CallsFor reporters input h s f k x) is calls }
+  called s f k x input had answer = record { input = input; had = had; called_for = subst (λ (h : Heard). CallsFor reporters input h s f k x) is answer }
 
   pub called_refused : (fault : ℕ) (s : Status) (f : List Event) (k : Option Held) (x : List ℕ) → heard ≡ Refused fault → s ≡ WordsRefused → f ≡ [] → k ≡ None → x ≡ words_refusal fault
       → Called reporters words left s f k x
   called_refused fault s f k x this status front none text =
       let some = some_input left in
       let base : CallsFor reporters some.0 (Refused fault) WordsRefused [] None (words_refusal fault) = call_refused fault in
-      let calls : CallsFor reporters some.0 heard s f k x = rw (this, status, front, none, text) base in
-      called s f k x some.0 some.1 calls
+      let answer : CallsFor reporters some.0 heard s f k x = rw (this, status, front, none, text) base in
+      called s f k x some.0 some.1 answer
 
   pub called_grown : (growers : ℕ) (places : List ℕ) (input : Input) (s : Status) (f : List Event) (k : Option Held) (x : List ℕ) → heard ≡ Grow growers places
-      → ((xs : List ℕ) × IsInput left xs × (input ≡ judged_input xs)) → Grows reporters places input s f k x → Called reporters words left s f k x
+      → ((xs : List ℕ) × IsInput left xs × (input ≡ judged_input xs)) → CallsForGraph reporters places input s f k x → Called reporters words left s f k x
   called_grown growers places input s f k x this (xs, had, judged) grows =
-      let base : CallsFor reporters xs (Grow growers places) s f k x = call_grow growers places s f k x (subst (λ (i : Input). Grows reporters places i s f k x) judged grows) in
+      let base : CallsFor reporters xs (Grow growers places) s f k x = call_grow growers places s f k x (subst (λ (i : Input). CallsForGraph reporters places i s f k x) judged grows) in
       called s f k x xs had (subst (λ (h : Heard). CallsFor reporters xs h s f k x) (sym this) base)
 
-  pub called_sampled : (growers number : ℕ) (s : Status) (f : List Event) (k : Option Held) (x : List ℕ) → heard ≡ Sample growers number → Samples number s f k x
+  pub called_sampled : (growers number : ℕ) (s : Status) (f : List Event) (k : Option Held) (x : List ℕ) → heard ≡ Sample growers number → CallsForSample number s f k x
       → Called reporters words left s f k x
   called_sampled growers number s f k x this samples =
       let some = some_input left in
       let base : CallsFor reporters some.0 (Sample growers number) s f k x = call_sample growers number s f k x samples in
       called s f k x some.0 some.1 (subst (λ (h : Heard). CallsFor reporters some.0 h s f k x) (sym this) base)
 
-  pub called_counted : (shape : ShapeType) (s : Status) (f : List Event) (k : Option Held) (x : List ℕ) → heard ≡ Census shape → f ≡ [] → k ≡ None → Counts shape s x
+  pub called_counted : (shape : ShapeType) (s : Status) (f : List Event) (k : Option Held) (x : List ℕ) → heard ≡ Census shape → f ≡ [] → k ≡ None → CallsForCensus shape s x
       → Called reporters words left s f k x
   called_counted shape s f k x this front none counts =
       let some = some_input left in
       let base : CallsFor reporters some.0 (Census shape) s [] None x = call_census shape s x counts in
-      let calls : CallsFor reporters some.0 heard s f k x = rw (this, front, none) base in
-      called s f k x some.0 some.1 calls
+      let answer : CallsFor reporters some.0 heard s f k x = rw (this, front, none) base in
+      called s f k x some.0 some.1 answer
 
   pub called_compared : (r : Relabelling) (input : Input) (s : Status) (f : List Event) (k : Option Held) (x : List ℕ) → heard ≡ Match r → f ≡ [] → k ≡ None
-      → ((xs : List ℕ) × IsInput left xs × (input ≡ judged_input xs)) → Compares r input s x → Called reporters words left s f k x
+      → ((xs : List ℕ) × IsInput left xs × (input ≡ judged_input xs)) → CallsForMatch r input s x → Called reporters words left s f k x
   called_compared r input s f k x this front none (xs, had, judged) compares =
-      let base : CallsFor reporters xs (Match r) s [] None x = call_match r s x (subst (λ (i : Input). Compares r i s x) judged compares) in
-      let calls : CallsFor reporters xs heard s f k x = rw (this, front, none) base in
-      called s f k x xs had calls
+      let base : CallsFor reporters xs (Match r) s [] None x = call_match r s x (subst (λ (i : Input). CallsForMatch r i s x) judged compares) in
+      let answer : CallsFor reporters xs heard s f k x = rw (this, front, none) base in
+      called s f k x xs had answer
 
 -- ---- what was read
 

@@ -5,7 +5,7 @@ use Rattle.graph_history.specs.declared.event.Event.{Event}
 use Rattle.graph_history.proofs.Components.{spent_outnumbers}
 use Rattle.crystal_shell.specs.Statistics.{Reporter}
 use Rattle.crystal_shell.specs.Inputs.{judged_input}
-use Rattle.crystal_shell.specs.Answers.{Grows, Samples, call_census, call_grow, call_match, call_sample, grow_whole, sample_whole}
+use Rattle.crystal_shell.specs.Answers.{CallsForGraph, CallsForSample, call_census, call_grow, call_match, call_sample, grow_whole, sample_whole}
 use Rattle.crystal_shell.specs.Laws.{AnsweredIsUnspent}
 use Rattle.graph_runs.specs.declared.run.Held.{Held}
 use Rattle.crystal_shell.proofs.Histories.{ended_graph}
@@ -13,11 +13,11 @@ use Rattle.crystal_shell.specs.declared.inputs.Input.{Input}
 use Rattle.crystal_shell.specs.declared.outcomes.Status.TheVariants.{Done}
 
 grows_unspent : (reporters : List Reporter) (places : List ℕ) (input : Input) (f : List Event) (k : Option Held) (y : List ℕ) (n x : ℕ) →
-    Grows reporters places input Done f k y → Contains f (record { caller = n; act = Spent x }) → ⊥
+    CallsForGraph reporters places input Done f k y → Contains f (record { caller = n; act = Spent x }) → ⊥
 grows_unspent reporters places input f k y n x (grow_whole job g front held told answers run asked) there =
     (ended_graph job.world front g run.ends).fits (spent_outnumbers job.world front n x run.history.legal there)
 
-samples_unspent : (number : ℕ) (f : List Event) (k : Option Held) (y : List ℕ) (n x : ℕ) → Samples number Done f k y → Contains f (record { caller = n; act = Spent x }) → ⊥
+samples_unspent : (number : ℕ) (f : List Event) (k : Option Held) (y : List ℕ) (n x : ℕ) → CallsForSample number Done f k y → Contains f (record { caller = n; act = Spent x }) → ⊥
 samples_unspent number f k y n x (sample_whole job g front held told judged run) there =
     (ended_graph job.world front g run.ends).fits (spent_outnumbers job.world front n x run.history.legal there)
 

@@ -49,17 +49,17 @@ pub record IsRunOf (job : Job) (graph : Option FinishedType) (front : List Event
 
 -- the status, the history, the graph with its one seat, and the text that an input calls for, where the statistics at
 -- these places are chosen
-pub data Grows (reporters : List Reporter) (places : List ℕ) : Input → Status → List Event → Option Held → List ℕ → Type 0 where
+pub data CallsForGraph (reporters : List Reporter) (places : List ℕ) : Input → Status → List Event → Option Held → List ℕ → Type 0 where
   -- a refused job is answered by its line and fault alone
-  grow_refused : (line fault : ℕ) → Grows reporters places (Refused line fault) JobRefused [] None (job_refusal line fault)
+  grow_refused : (line fault : ℕ) → CallsForGraph reporters places (Refused line fault) JobRefused [] None (job_refusal line fault)
   -- a job whose graph is finished: there is one run of it; the text has its replies, the graph of its vertices, the
   -- statistics and the answers to the asks
   grow_whole : (job : Job) (f : FinishedType) (front : List Event) (held : Held) (told : List (List Reply)) (answers : List AskAnswer)
       → IsRunOf job (Some f) front held told → AreAnswers f (slice_index job.starts 0) job.asks answers
-      → Grows reporters places (Taken job) Done front (Some held) (whole_text f told (statistics_text reporters places (items_of f)) (asks_text f answers))
+      → CallsForGraph reporters places (Taken job) Done front (Some held) (whole_text f told (statistics_text reporters places (items_of f)) (asks_text f answers))
   -- a job with more reached words than cells: there is one run of it; the text has its replies, and `full`
   grow_full : (job : Job) (front : List Event) (held : Held) (told : List (List Reply)) → IsRunOf job None front held told
-      → Grows reporters places (Taken job) Full front (Some held) (full_text job.world.space told)
+      → CallsForGraph reporters places (Taken job) Full front (Some held) (full_text job.world.space told)
 
 -- ---- sample
 
@@ -70,11 +70,11 @@ run_status None = Full
 
 -- the status, the history, the graph with its one seat, and the text that the number of a sample calls for: those of a run
 -- of the job that the sample with this number is judged to be, of which the text has no more than the sizes
-pub data Samples (number : ℕ) : Status → List Event → Option Held → List ℕ → Type 0 where
+pub data CallsForSample (number : ℕ) : Status → List Event → Option Held → List ℕ → Type 0 where
   sample_whole : (job : Job) (f : FinishedType) (front : List Event) (held : Held) (told : List (List Reply)) → judge (sample number) ≡ Ok job
-      → IsRunOf job (Some f) front held told → Samples number Done front (Some held) (sample_answer number job.world.space.cartan 4 256 (graph_head f))
+      → IsRunOf job (Some f) front held told → CallsForSample number Done front (Some held) (sample_answer number job.world.space.cartan 4 256 (graph_head f))
   sample_full : (job : Job) (front : List Event) (held : Held) (told : List (List Reply)) → judge (sample number) ≡ Ok job
-      → IsRunOf job None front held told → Samples number Full front (Some held) (sample_answer number job.world.space.cartan 4 256 full_line)
+      → IsRunOf job None front held told → CallsForSample number Full front (Some held) (sample_answer number job.world.space.cartan 4 256 full_line)
 
 -- ---- census
 
@@ -83,9 +83,9 @@ abbrev pub census_limit : ℕ
 census_limit = 65536
 
 -- the status and the text that a shape calls for
-pub data Counts (shape : ShapeType) : Status → List ℕ → Type 0 where
-  count_listed : (list : List ℕ) → IsListed shape census_limit list → Counts shape Done (census_text shape list)
-  count_full : IsTooLarge shape census_limit → Counts shape Full (full_census_text shape.cartan)
+pub data CallsForCensus (shape : ShapeType) : Status → List ℕ → Type 0 where
+  count_listed : (list : List ℕ) → IsListed shape census_limit list → CallsForCensus shape Done (census_text shape list)
+  count_full : IsTooLarge shape census_limit → CallsForCensus shape Full (full_census_text shape.cartan)
 
 -- ---- match
 
@@ -99,13 +99,13 @@ marked r job = pointed job.world.space (slice_index job.starts 0) (slice_index j
 
 -- the status and the text that an input calls for; a job with fewer than two starts is refused with the fault 16, and the
 -- job's cells are the most pairs
-pub data Compares (r : Relabelling) : Input → Status → List ℕ → Type 0 where
-  match_refused : (line fault : ℕ) → Compares r (Refused line fault) JobRefused (job_refusal line fault)
-  match_few : (job : Job) → length job.starts < 2 → Compares r (Taken job) JobRefused (job_refusal 0 16)
+pub data CallsForMatch (r : Relabelling) : Input → Status → List ℕ → Type 0 where
+  match_refused : (line fault : ℕ) → CallsForMatch r (Refused line fault) JobRefused (job_refusal line fault)
+  match_few : (job : Job) → length job.starts < 2 → CallsForMatch r (Taken job) JobRefused (job_refusal 0 16)
   match_told : (job : Job) (verdict : Verdict) → 2 ≤ length job.starts → IsVerdict (marked r job) verdict
-      → (PairsOutnumber (marked r job) job.world.cells → ⊥) → Compares r (Taken job) Done (match_text job.world.space.cartan (verdict_line (Some verdict)))
+      → (PairsOutnumber (marked r job) job.world.cells → ⊥) → CallsForMatch r (Taken job) Done (match_text job.world.space.cartan (verdict_line (Some verdict)))
   match_full : (job : Job) → 2 ≤ length job.starts → PairsOutnumber (marked r job) job.world.cells
-      → Compares r (Taken job) Full (match_text job.world.space.cartan (verdict_line None))
+      → CallsForMatch r (Taken job) Full (match_text job.world.space.cartan (verdict_line None))
 
 -- ---- all of them
 
@@ -113,10 +113,10 @@ pub data Compares (r : Relabelling) : Input → Status → List ℕ → Type 0 w
 pub data CallsFor (reporters : List Reporter) (input : List ℕ) : Heard → Status → List Event → Option Held → List ℕ → Type 0 where
   call_refused : (fault : ℕ) → CallsFor reporters input (heard.Refused fault) WordsRefused [] None (words_refusal fault)
   call_grow : (growers : ℕ) (places : List ℕ) (status : Status) (front : List Event) (held : Option Held) (text : List ℕ)
-      → Grows reporters places (judged_input input) status front held text → CallsFor reporters input (heard.Grow growers places) status front held text
+      → CallsForGraph reporters places (judged_input input) status front held text → CallsFor reporters input (heard.Grow growers places) status front held text
   call_sample : (growers number : ℕ) (status : Status) (front : List Event) (held : Option Held) (text : List ℕ)
-      → Samples number status front held text → CallsFor reporters input (heard.Sample growers number) status front held text
-  call_census : (shape : ShapeType) (status : Status) (text : List ℕ) → Counts shape status text
+      → CallsForSample number status front held text → CallsFor reporters input (heard.Sample growers number) status front held text
+  call_census : (shape : ShapeType) (status : Status) (text : List ℕ) → CallsForCensus shape status text
       → CallsFor reporters input (heard.Census shape) status [] None text
-  call_match : (r : Relabelling) (status : Status) (text : List ℕ) → Compares r (judged_input input) status text
+  call_match : (r : Relabelling) (status : Status) (text : List ℕ) → CallsForMatch r (judged_input input) status text
       → CallsFor reporters input (heard.Match r) status [] None text

@@ -42,9 +42,9 @@ pub record AreChosen (count : ℕ) (places : List ℕ) : Type 0 where
   pub below : (k : ℕ) → k < length places → slice_index places k < count
 
 -- what was heard names 1 to 16 growers, statistics that there are, and a shape of type A in the standard tensor order
-abbrev pub Fits : ℕ → Heard → Type 0
-Fits count (Refused fault) = Unit {0}
-Fits count (Grow growers places) = (1 ≤ growers) × (growers ≤ 16) × AreChosen count places
-Fits count (Sample growers number) = (1 ≤ growers) × (growers ≤ 16)
-Fits count (Census shape) = (shape.cartan.kind ≡ A) × (shape.order ≡ Standard)
-Fits count (Match relabelling) = Unit {0}
+abbrev pub CanBeHeard : ℕ → Heard → Type 0
+CanBeHeard count (Refused fault) = Unit {0}
+CanBeHeard count (Grow growers places) = (1 ≤ growers) × (growers ≤ 16) × AreChosen count places
+CanBeHeard count (Sample growers number) = (1 ≤ growers) × (growers ≤ 16)
+CanBeHeard count (Census shape) = (shape.cartan.kind ≡ A) × (shape.order ≡ Standard)
+CanBeHeard count (Match relabelling) = Unit {0}

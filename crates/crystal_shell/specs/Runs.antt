@@ -17,7 +17,7 @@ use Rattle.crystal_shell.specs.declared.outcomes.Status.{Status}
 pub record Called (reporters : List Reporter) (words : List (List ℕ)) (left : Option (List ℕ)) (status : Status) (front : List Event) (held : Option Held) (text : List ℕ) : Type 0 where
   pub input : List ℕ
   pub had : IsInput left input
-  pub calls : CallsFor reporters input (heard_in words (names_of reporters)) status front held text
+  pub called_for : CallsFor reporters input (heard_in words (names_of reporters)) status front held text
 
 -- what was read of a source, of which contracts see what it has left and how many of its reads failed, in a call that may
 -- have come to nothing by a fault of a read

@@ -3,7 +3,7 @@ ghost use Rattle.std.specs.Prelude.{◌≡◌, [], None, IfOk};
 ghost use Rattle.crystal_cartan.specs.declared.types.Kind.TheVariants.{A};
 ghost use Rattle.tensor_words.specs.declared.spaces.Order.TheVariants.{Standard};
 ghost use Rattle.answer_text.specs.Answers.{IsPrintableAnswer, answer_bytes};
-ghost use Rattle.crystal_shell.specs.Answers.{Counts};
+ghost use Rattle.crystal_shell.specs.Answers.{CallsForCensus};
 
 use crate::outcomes::{Answered, Status};
 use answer_text::Answer;
@@ -19,7 +19,7 @@ const CENSUS_LIMIT: u32 = 65_536;
 pub(crate) fn count(alloc: Global, shape: Shape) -> Result<Answered, NoMemory>
     requires kind { shape.cartan.kind ≡ A }
     requires order { shape.order ≡ Standard }
-    ensures counts { IfOk result (λ a. Counts shape a.status (answer_bytes a.answer)) }
+    ensures counts { IfOk result (λ a. CallsForCensus shape a.status (answer_bytes a.answer)) }
     ensures printable { IfOk result (λ a. IsPrintableAnswer a.answer) }
     ensures unkept { IfOk result (λ a. (a.front ≡ []) × (a.held ≡ None)) }
 {

@@ -7,7 +7,7 @@ ghost use Rattle.crystal_characters.specs.Items.{items_of};
 ghost use Rattle.crystal_shell.specs.Statistics.{AreFresh, AreReports, Reporter};
 ghost use Rattle.crystal_shell.specs.Heard.{AreChosen};
 ghost use Rattle.crystal_shell.specs.Inputs.{IsLawful};
-ghost use Rattle.crystal_shell.specs.Answers.{Grows};
+ghost use Rattle.crystal_shell.specs.Answers.{CallsForGraph};
 
 use crate::inputs::Input;
 use crate::outcomes::{Answered, Status};
@@ -39,7 +39,7 @@ pub(crate) fn grow<T: Threads + Sync, G: Gate>(
     requires chosen { AreChosen (length stats.old.items) places.now }
     requires fresh { AreFresh (λ b. named b) (λ b. fed b) stats.old.items }
     ensures grows { let reporters : List Reporter = map (λ b. record { name = named b; reports = reported b }) stats.old.items in
-        IfOk result (λ a. Grows reporters places.now input a.status a.front a.held (answer_bytes a.answer)) }
+        IfOk result (λ a. CallsForGraph reporters places.now input a.status a.front a.held (answer_bytes a.answer)) }
     ensures printable { IfOk result (λ a. IsPrintableAnswer a.answer) }
 {
     match input {
@@ -63,7 +63,7 @@ fn grow_job<T: Threads + Sync, G: Gate>(
     requires chosen { AreChosen (length stats.old.items) places.now }
     requires fresh { AreFresh (λ b. named b) (λ b. fed b) stats.old.items }
     ensures grows { let reporters : List Reporter = map (λ b. record { name = named b; reports = reported b }) stats.old.items in
-        IfOk result (λ a. Grows reporters places.now (Input.Taken job) a.status a.front a.held (answer_bytes a.answer)) }
+        IfOk result (λ a. CallsForGraph reporters places.now (Input.Taken job) a.status a.front a.held (answer_bytes a.answer)) }
     ensures printable { IfOk result (λ a. IsPrintableAnswer a.answer) }
 {
     let Job {

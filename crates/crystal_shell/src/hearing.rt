@@ -2,7 +2,7 @@
 ghost use Rattle.std.specs.Prelude.{◌≡◌, ℕ, List, IfOk, map, length, string_bytes, Err, Ok};
 ghost use Rattle.command_words.specs.Judge.{judge_words, IsAnswer, FitsNames};
 ghost use Rattle.crystal_shell.specs.Statistics.{Reporter, names_of};
-ghost use Rattle.crystal_shell.specs.Heard.{Fits, heard_in, heard_of};
+ghost use Rattle.crystal_shell.specs.Heard.{CanBeHeard, heard_in, heard_of};
 
 use crate::statistics::read_settings;
 use command_words::{Places, Relabelling, Settings, WordsFault};
@@ -34,7 +34,7 @@ pub(crate) fn hear(
 ) -> Result<Heard, NoMemory>
     ensures heard { let reporters : List Reporter = map (λ b. record { name = named b; reports = reported b }) stats.now in
         IfOk result (λ heard. heard ≡ heard_in (map string_bytes words.now) (names_of reporters)) }
-    ensures fits { IfOk result (Fits (length stats.now)) }
+    ensures fits { IfOk result (CanBeHeard (length stats.now)) }
 {
     match read_settings(alloc, words, stats) {
         Ok(settings) => Ok(heard_of(settings)),
@@ -45,7 +45,7 @@ pub(crate) fn hear(
 /// What accepted settings ask for.
 fn heard_of(settings: Settings) -> Heard
     ensures heard { result ≡ heard_of (Ok settings) }
-    ensures fits { (count : ℕ) → FitsNames count settings → Fits count result }
+    ensures fits { (count : ℕ) → FitsNames count settings → CanBeHeard count result }
 {
     match settings {
         Settings::Grow { growers, chosen } => Heard::Grow {
@@ -62,7 +62,7 @@ fn heard_of(settings: Settings) -> Heard
 fn heard_fault(fault: WordsFault) -> Result<Heard, NoMemory>
     ensures heard { IfOk result (λ heard. (words names : List (List ℕ)) →
         IsAnswer (judge_words words names) (Err fault) → heard ≡ heard_in words names) }
-    ensures fits { IfOk result (λ heard. (count : ℕ) → Fits count heard) }
+    ensures fits { IfOk result (λ heard. (count : ℕ) → CanBeHeard count heard) }
 {
     match fault.number() {
         Some(number) => Ok(Heard::Refused { fault: number }),

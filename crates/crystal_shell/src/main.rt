@@ -1,8 +1,8 @@
 //! The workbench for crystal graphs as a program: command words and a job in, the answer out.
 //!
-//! **Promises.** `run` (`top`, the module to read first, with specs/Runs.antt) writes the text that the command words and
-//! the input call for, under the status that they call for; where a stream fails or memory is short its status says so.
-//! `main` hands it the words, the standard streams and the three statistics.
+//! **Promises.** `run` (`running`, the module to read first, with specs/Runs.antt) writes the text that the command
+//! words and the input call for, under the status that they call for; where a stream fails or memory is short its
+//! status says so. `main` hands it the words, the standard streams and the three statistics.
 //!
 //! Its modules follow a run: `hearing` has the command words, `inputs` the job, `growing`, `samples`, `counting` and
 //! `matching` a mode each, `statistics` what is chosen, fed and reported, `refusals` the answers to refused words and
@@ -21,11 +21,11 @@ mod laws;
 mod matching;
 mod outcomes;
 mod refusals;
+mod running;
 mod samples;
 mod statistics;
 #[cfg(test)]
 mod tests;
-mod top;
 
 use crystal_characters::{CharacterTally, EndTally, Statistic, StringTally};
 use crystal_streams::{InputAdapter, OpenGate, OutputAdapter, Sink, Source};
@@ -63,7 +63,7 @@ fn status<T: Threads + Sync, R: Source, W: Sink>(
     stats.push(Box::new(alloc, CharacterTally::new(alloc))?)?;
     stats.push(Box::new(alloc, StringTally::new(alloc))?)?;
     stats.push(Box::new(alloc, EndTally::new(alloc))?)?;
-    let outcome = top::run(rt, alloc, words, source, sink, stats, &OpenGate);
+    let outcome = running::run(rt, alloc, words, source, sink, stats, &OpenGate);
     Ok(outcome.status)
 }
 

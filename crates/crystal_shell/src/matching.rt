@@ -3,7 +3,7 @@ ghost use Rattle.std.specs.Prelude.{◌≡◌, [], Some, None, IfOk};
 ghost use Rattle.job_text.specs.Jobs.{IsJob};
 ghost use Rattle.answer_text.specs.Answers.{IsPrintableAnswer, answer_bytes};
 ghost use Rattle.crystal_shell.specs.Inputs.{IsLawful};
-ghost use Rattle.crystal_shell.specs.Answers.{Compares, relabel_of};
+ghost use Rattle.crystal_shell.specs.Answers.{CallsForMatch, relabel_of};
 
 use crate::inputs::Input;
 use crate::outcomes::{Answered, Status};
@@ -26,7 +26,7 @@ pub(crate) fn matched(
     relabelling: Relabelling,
 ) -> Result<Answered, NoMemory>
     requires { IsLawful input }
-    ensures compares { IfOk result (λ a. Compares relabelling input a.status (answer_bytes a.answer)) }
+    ensures compares { IfOk result (λ a. CallsForMatch relabelling input a.status (answer_bytes a.answer)) }
     ensures printable { IfOk result (λ a. IsPrintableAnswer a.answer) }
     ensures unkept { IfOk result (λ a. (a.front ≡ []) × (a.held ≡ None)) }
 {
@@ -39,7 +39,7 @@ pub(crate) fn matched(
 /// The answer to a job.
 fn match_job(alloc: Global, job: &Job, relabelling: Relabelling) -> Result<Answered, NoMemory>
     requires { IsJob job.now }
-    ensures compares { IfOk result (λ a. Compares relabelling (Input.Taken job.now) a.status (answer_bytes a.answer)) }
+    ensures compares { IfOk result (λ a. CallsForMatch relabelling (Input.Taken job.now) a.status (answer_bytes a.answer)) }
     ensures printable { IfOk result (λ a. IsPrintableAnswer a.answer) }
     ensures unkept { IfOk result (λ a. (a.front ≡ []) × (a.held ≡ None)) }
 {

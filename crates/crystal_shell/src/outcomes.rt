@@ -93,9 +93,9 @@ impl NoAnswer {
 
 impl From<NoMemory> for NoAnswer {
     ghost use Rattle.std.specs.Prelude.{◌≡◌};
-    ghost use Rattle.crystal_shell.specs.declared.outcomes.NoAnswer.TheVariants.{NoMemory as NoMemoryStop};
+    ghost use Rattle.crystal_shell.specs.declared.outcomes.NoAnswer.TheVariants.{NoMemory as WantsMemory};
 
-    ghost from_gives = { λ _ stop. stop ≡ NoMemoryStop };
+    ghost from_gives = { λ _ why. why ≡ WantsMemory };
 
     fn from(_error: NoMemory) -> NoAnswer {
         NoAnswer::NoMemory

@@ -1,7 +1,7 @@
 //! The mode `sample`: the crystal of a sample job, of which the sizes are told.
 ghost use Rattle.std.specs.Prelude.{◌≡◌, ◌≤◌, IfOk};
 ghost use Rattle.answer_text.specs.Answers.{IsPrintableAnswer, answer_bytes};
-ghost use Rattle.crystal_shell.specs.Answers.{Samples, run_status};
+ghost use Rattle.crystal_shell.specs.Answers.{CallsForSample, run_status};
 
 use crate::outcomes::{Answered, Status};
 use answer_text::Answer;
@@ -27,7 +27,7 @@ pub(crate) fn sample<T: Threads + Sync, G: Gate>(
     gate: &G,
 ) -> Result<Answered, NoMemory>
     requires { (1 ≤ growers) × (growers ≤ 16) }
-    ensures samples { IfOk result (λ a. Samples number a.status a.front a.held (answer_bytes a.answer)) }
+    ensures samples { IfOk result (λ a. CallsForSample number a.status a.front a.held (answer_bytes a.answer)) }
     ensures printable { IfOk result (λ a. IsPrintableAnswer a.answer) }
 {
     let job = sample_job(alloc, number)?;

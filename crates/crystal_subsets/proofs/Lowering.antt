@@ -19,7 +19,7 @@ use Rattle.canonical_graph.specs.Graphs.{FinishedType, IsFinished, code_at, rank
 use Rattle.canonical_graph.proofs.Ranks.{place_of_rank, target_of_some}
 use Rattle.crystal_subsets.specs.DemazureSubsets.{IsLowered}
 use Rattle.crystal_subsets.specs.DemazureSubsets.IsLowered.{no_times, once_more}
-use Rattle.crystal_subsets.specs.Marks.{is_marked, marked_on, ComesFrom, AreLowered}
+use Rattle.crystal_subsets.specs.Marks.{is_marked, marked_on, ComesFrom, AreMarkedFrom}
 
 -- f_i leads to a larger code, since e_i leads back to a smaller one
 lowering_rises : (s : SpaceType) (i c d : ℕ) → IsSpace s → HasIndex s.cartan i → c < size s → op s (lowering i) c ≡ Some d → c < d
@@ -167,7 +167,7 @@ all_marked f i old marks finished index passed (once_more y z x leads rest) q r 
     all_marked f i old marks finished index passed rest next.0 r next.2 high next.3 last (passed.closed q next.0 low marked next.1)
 
 pub pass_ends : (f : FinishedType) (i n : ℕ) (old marks : List Bool) → IsFinished f → HasIndex f.space.cartan i → n ≡ length f.codes
-    → IsPassed f i old n marks → AreLowered f i old marks
+    → IsPassed f i old n marks → AreMarkedFrom f i old marks
 pass_ends f i n old marks finished index all passed rank below = (
   passed.sound rank below,
   λ source. all_marked f i old marks finished index (rw all at passed) source.lowered source.from rank source.below below refl refl

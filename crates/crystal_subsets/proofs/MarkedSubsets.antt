@@ -9,7 +9,7 @@ use Rattle.crystal_cartan.specs.Types.{HasIndex}
 use Rattle.canonical_graph.specs.Graphs.{FinishedType, IsFinished, code_at, lowering}
 use Rattle.crystal_subsets.specs.DemazureSubsets.{IsLowered, Demazure}
 use Rattle.crystal_subsets.specs.DemazureSubsets.IsLowered.{no_times, once_more}
-use Rattle.crystal_subsets.specs.Marks.{is_marked, AreLowered, marked_ranks}
+use Rattle.crystal_subsets.specs.Marks.{is_marked, AreMarkedFrom, marked_ranks}
 use Rattle.crystal_subsets.proofs.Lowering.{same_rank}
 use Rattle.crystal_subsets.proofs.RankLists.{kept, kept_back, kept_ascend}
 
@@ -44,7 +44,7 @@ start_marked f start marks new finished below none is rank low = elim (cases_eq 
 
 -- one index more
 pub more_marked : (f : FinishedType) (b i : ℕ) (rest : List ℕ) (old new : List Bool) → IsFinished f → Contains f.codes b → All (HasIndex f.space.cartan) rest
-    → AreMarked f b rest old → AreLowered f i old new → AreMarked f b (i ∷ rest) new
+    → AreMarked f b rest old → AreMarkedFrom f i old new → AreMarked f b (i ∷ rest) new
 more_marked f b i rest old new finished there all before lowered rank low = (
   λ marked.
       let source = (lowered rank low).0 marked in
@@ -68,7 +68,7 @@ written_back n old new size whole =
 
 pub next_index : (f : FinishedType) (b place q : ℕ) (indices : List ℕ) (old new back : List Bool) → IsFinished f → Contains f.codes b
     → All (HasIndex f.space.cartan) indices → q + 1 ≡ place → place ≤ length indices → AreMarked f b (drop place indices) old
-    → AreLowered f (get_or indices q 0) old new → back ≡ new → AreMarked f b (drop q indices) back
+    → AreMarkedFrom f (get_or indices q 0) old new → back ≡ new → AreMarked f b (drop q indices) back
 next_index f b place q indices old new back finished there all next within before lowered is =
     let split : drop q indices ≡ get_or indices q 0 ∷ drop place indices = rw (sym next) (drop_more indices q 0 (omega arith)) in
     rw (split, is) (more_marked f b (get_or indices q 0) (drop place indices) old new finished there (All-drop (HasIndex f.space.cartan) place indices all) before lowered)

@@ -22,8 +22,8 @@ pub record ComesFrom (f : FinishedType) (i : ℕ) (marks : List Bool) (rank : �
   pub lowered : IsLowered f.space i (code_at f from) (code_at f rank)
 
 -- the new marks are just at the vertices that come from the old ones
-abbrev pub AreLowered : FinishedType → ℕ → List Bool → List Bool → Type 0
-AreLowered f i old new = (rank : ℕ) → rank < length f.codes → IsTrue (is_marked new rank) ↔ ComesFrom f i old rank
+abbrev pub AreMarkedFrom : FinishedType → ℕ → List Bool → List Bool → Type 0
+AreMarkedFrom f i old new = (rank : ℕ) → rank < length f.codes → IsTrue (is_marked new rank) ↔ ComesFrom f i old rank
 
 -- the ranks that are marked, ascending
 abbrev pub marked_ranks : List Bool → List ℕ

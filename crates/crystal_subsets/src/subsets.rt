@@ -4,7 +4,7 @@ ghost use Rattle.std.specs.List.Sorted.{IsStrictlyIncreasing};
 ghost use Rattle.crystal_cartan.specs.Types.{HasIndex};
 ghost use Rattle.canonical_graph.specs.Graphs.{code_at, target_rank, lowering};
 ghost use Rattle.crystal_subsets.specs.DemazureSubsets.{Demazure};
-ghost use Rattle.crystal_subsets.specs.Marks.{is_marked, marked_on, AreLowered, marked_ranks};
+ghost use Rattle.crystal_subsets.specs.Marks.{is_marked, marked_on, AreMarkedFrom, marked_ranks};
 
 use canonical_graph::Finished;
 use crystal_cartan::Arrow;
@@ -48,7 +48,7 @@ pub fn demazure(
 fn lower_marks(finished: &Finished, index: u8, marks: &mut [bool])
     requires marks { length marks.old ≡ length finished.now.codes }
     requires index { HasIndex finished.now.space.cartan index }
-    ensures { AreLowered finished.now index marks.old marks.new }
+    ensures { AreMarkedFrom finished.now index marks.old marks.new }
 {
     'ranks: for rank in 0..finished.len() {
         mark_next(finished, rank, index, marks);

@@ -18,7 +18,7 @@ use Rattle.graph_history.specs.declared.event.Event.{Event}
 use Rattle.graph_history.specs.History.{State, state_of, after, vertex_at, target_at, same_arrow, HasVertex, IsNew, IsOrigin, IsWhole, MayAdd, MayDraw, MaySettle, IsLegalAct, IsLegal}
 use Rattle.signature_rule.specs.ArrowOrder.{arrow_place}
 use Rattle.graph_history.specs.ArrowRows.{edge_place, edge_word}
-use Rattle.graph_history.specs.Plain.{unpaid_of, IsKept, IsDesk, IsQuiet}
+use Rattle.graph_history.specs.Plain.{unpaid_of, KeepsState, IsDesk, IsQuiet}
 use Rattle.graph_history.specs.Desks.{unpaid_then, without}
 use Rattle.graph_history.proofs.Histories.{legal_push, legal_empty, state_push, vertex_at-new, vertex_at-other, target_at-new, target_at-other, same_edge, own_edge}
 use Rattle.graph_history.proofs.SoundStates.{sound}
@@ -56,7 +56,7 @@ place_any [] x k h = cc
 place_any (y ∷ xs) x zero h = let same : y ≡ x = cc in grind (arith, common_steps)
 place_any (y ∷ xs) x (suc k) h = let rest = place_any xs x k h in grind (arith, common_steps)
 
-module _ (w : WorldType) (codes edges : List ℕ) (s : State) (K : IsKept w codes edges s) where
+module _ (w : WorldType) (codes edges : List ℕ) (s : State) (K : KeepsState w codes edges s) where
   pub kept_vertex : (c x : ℕ) → slice_get codes c ≡ Some x → HasVertex s c x
   kept_vertex c x at = K.vertices c ∙ at
 
@@ -78,7 +78,7 @@ module _ (w : WorldType) (codes edges : List ℕ) (s : State) (K : IsKept w code
       by true is = let found = any_place codes x is in absurd (fresh found.0 (kept_vertex found.0 x found.1))
 
   pub kept_added : (x : ℕ) (o : Origin) → length codes < w.cells → ((a : Arrow) → target_at s.drawn (length codes) a ≡ None)
-      → IsKept w (codes ++ x ∷ []) (edges ++ blank_row w) (after s (Added (length codes) x o))
+      → KeepsState w (codes ++ x ∷ []) (edges ++ blank_row w) (after s (Added (length codes) x o))
   kept_added x o room bare = record {
     count = length-append s.vertices (record { cell = length codes; code = x } ∷ []) ∙ ap (λ n. n + 1) K.count ∙ sym (length-append codes (x ∷ []));
     fits = omega (arith, long);
@@ -124,7 +124,7 @@ module _ (w : WorldType) (codes edges : List ℕ) (s : State) (K : IsKept w code
           vertex_at-other s.vertices (record { cell = length codes; code = x }) c is ∙ K.vertices c ∙ sym (get_other codes x c other)
 
   pub kept_drew : (c : ℕ) (a : Arrow) (t : Option ℕ) → c < length codes → IsArrow w.space a → target_at s.drawn c a ≡ None
-      → IsKept w codes (slice_set edges (edge_place w.space.cartan.rank c a) (edge_word (Some t))) (after s (Drew c a t))
+      → KeepsState w codes (slice_set edges (edge_place w.space.cartan.rank c a) (edge_word (Some t))) (after s (Drew c a t))
   kept_drew c a t below is undrawn = record {
     count = K.count;
     fits = K.fits;
@@ -152,7 +152,7 @@ module _ (w : WorldType) (codes edges : List ℕ) (s : State) (K : IsKept w code
           ∙ K.drawn d b cell arrow ∙ sym (ap edge_word (target_at-other s.drawn (record { cell = c; arrow = a; to = t }) d b here))
 
 -- nothing of it speaks of debts
-kept_debts : (w : WorldType) (codes edges : List ℕ) (s : State) (n : ℕ) → IsKept w codes edges s → IsKept w codes edges (record s { debts = n })
+kept_debts : (w : WorldType) (codes edges : List ℕ) (s : State) (n : ℕ) → KeepsState w codes edges s → KeepsState w codes edges (record s { debts = n })
 kept_debts w codes edges s n K = record { count = K.count; fits = K.fits; vertices = K.vertices; places = K.places; drawn = K.drawn }
 
 -- an act that changes nothing
@@ -189,7 +189,7 @@ module _ (w : WorldType) (codes : List ℕ) (spare : ℕ) (edges : List ℕ) (ca
       record {
         world = D.world;
         legal = rw is (legal_push w h e D.legal may);
-        kept = subst (IsKept w codes edges) (sym same) D.kept;
+        kept = subst (KeepsState w codes edges) (sym same) D.kept;
         debts = ap (λ (s : State). s.debts) same ∙ D.debts;
         owing = rw (same, unpaid) D.owing;
         memory = D.memory;
@@ -275,7 +275,7 @@ module _ (w : WorldType) (codes : List ℕ) (spare : ℕ) (edges : List ℕ) (ca
       record {
         world = D.world;
         legal = rw is (legal_push w h e D.legal may);
-        kept = subst (IsKept w codes edges) (sym same) (kept_debts w codes edges (state_of h) ((state_of h).debts - 1) D.kept);
+        kept = subst (KeepsState w codes edges) (sym same) (kept_debts w codes edges (state_of h) ((state_of h).debts - 1) D.kept);
         debts = let all = D.debts in ap (λ (s : State). s.debts) same ∙ omega arith;
         owing = rw (same, cells) (owing_settled w (state_of h) (unpaid_of h) c D.owing unpaid whole);
         memory = D.memory;

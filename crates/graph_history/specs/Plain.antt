@@ -43,7 +43,7 @@ standing_of d = record {
 }
 
 -- the codes stand in the order of their cells, and each arrow of each vertex has its word
-pub record IsKept (w : WorldType) (codes edges : List ℕ) (s : State) : Type 0 where
+pub record KeepsState (w : WorldType) (codes edges : List ℕ) (s : State) : Type 0 where
   pub count : length s.vertices ≡ length codes
   pub fits : length codes ≤ w.cells
   pub vertices : (c : ℕ) → vertex_at s.vertices c ≡ slice_get codes c
@@ -62,7 +62,7 @@ pub record IsOwing (w : WorldType) (s : State) (cells : List ℕ) : Type 0 where
 pub record IsDesk (w : WorldType) (codes : List ℕ) (spare : ℕ) (edges : List ℕ) (capacity owed : ℕ) (h : List Event) : Type 0 where
   pub world : IsWorld w
   pub legal : IsLegal w h
-  pub kept : IsKept w codes edges (state_of h)
+  pub kept : KeepsState w codes edges (state_of h)
   pub debts : (state_of h).debts ≡ owed
   pub owing : IsOwing w (state_of h) (unpaid_of h)
   pub memory : w.cells ≤ length codes + spare

@@ -19,7 +19,7 @@ use Rattle.intern_cells.specs.Entries.{Enters}
 use Rattle.crystal_growers.specs.SharedDesks.{Worked}
 use Rattle.crystal_growers.proofs.SharedSteps.{worked_then, worked_entry, unpaid_entry}
 use Rattle.graph_runs.specs.Runs.{HasSpent}
-use Rattle.graph_runs.specs.Ending.{IsEntering, IsEntered}
+use Rattle.graph_runs.specs.Ending.{IsEntering, HasEnteredRoots}
 
 -- a vertex stays
 pub code_stays : (v w : SeatValue) (acts : List Act) (x : ℕ) → Worked v w acts → HasCode (state_of v.view.front) x → HasCode (state_of w.view.front) x
@@ -61,7 +61,7 @@ module _ (old mid new : SeatValue) (before cells longer roots more : List ℕ) (
   spent_by acts owed_spent is = spent_in (Owed ∷ []) (Settled None ∷ []) is
 
   -- one root found no cell
-  pub entered_full : (w : WorldType) → answer ≡ Full → IsEntered w old new before longer false
+  pub entered_full : (w : WorldType) → answer ≡ Full → HasEnteredRoots w old new before longer false
   entered_full w full = record {
     acts = s.acts ++ e.acts;
     worked = worked_then old mid new s.acts e.acts s.worked step;
@@ -69,7 +69,7 @@ module _ (old mid new : SeatValue) (before cells longer roots more : List ℕ) (
     there = spent_by e.acts (subst (λ (a : Added). IsEntry root Root a e.acts) full e.entry) refl;
   }
 
-pub entered_all : (w : WorldType) (old new : SeatValue) (before cells roots : List ℕ) → w.roots ≡ roots → IsEntering old new before cells roots → IsEntered w old new before cells true
+pub entered_all : (w : WorldType) (old new : SeatValue) (before cells roots : List ℕ) → w.roots ≡ roots → IsEntering old new before cells roots → HasEnteredRoots w old new before cells true
 entered_all w old new before cells roots is s = record {
   acts = s.acts;
   worked = s.worked;

@@ -23,7 +23,7 @@ pub record CanGrow (g : GraphValue) (s : SeatValue) (cells : List ℕ) (growers 
   pub owed : IsCovered s cells
 
 -- a growth from these cells is over
-pub record HasGrown (g : GraphValue) (s : SeatValue) (cells : List ℕ) (growers : ℕ) (growth : GrownSeat) : Type 0 where
+pub record IsGrowthOver (g : GraphValue) (s : SeatValue) (cells : List ℕ) (growers : ℕ) (growth : GrownSeat) : Type 0 where
   pub belongs : Belongs growth.seat g
   pub grown : IsGrown s.view growth.seat.view cells growers growth.grown
 

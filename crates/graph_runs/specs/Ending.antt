@@ -40,7 +40,7 @@ AllThere w s true = HasRoots w (state_of s.view.front)
 AllThere w s false = HasSpent s.view.front
 
 -- the missing roots were put in
-pub record IsEntered (w : WorldType) (old new : SeatValue) (before cells : List ℕ) (all : Bool) : Type 0 where
+pub record HasEnteredRoots (w : WorldType) (old new : SeatValue) (before cells : List ℕ) (all : Bool) : Type 0 where
   pub acts : List Act
   pub worked : Worked old new acts
   pub unpaid : all ≡ true → old.view.dues.unpaid ≡ before → new.view.dues.unpaid ≡ cells

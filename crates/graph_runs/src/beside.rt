@@ -5,7 +5,7 @@ ghost use Rattle.crystal_streams.specs.declared.faults.NoMemory.{NoMemory as NoM
 ghost use Rattle.graph_rule.specs.Values.{Belongs};
 ghost use Rattle.graph_runs.specs.declared.seats.Session.{Session as SessionType};
 ghost use Rattle.graph_runs.specs.declared.serve.Served.{Served as ServedType};
-ghost use Rattle.graph_runs.specs.Beside.{CanGrow, HasGrown, CanSit, HasSat};
+ghost use Rattle.graph_runs.specs.Beside.{CanGrow, IsGrowthOver, CanSit, HasSat};
 
 use crate::seats::Session;
 use crate::serve::{Served, serve};
@@ -41,7 +41,7 @@ pub(crate) fn run_both<R: Threads + Sync, G: Gate>(
 )
     requires can { CanGrow graph.now growing.0 growing.1.items growing.2 }
     requires seated { All (CanSit graph.now scripts.now) sessions.items }
-    ensures growth { IfOk result.0 (HasGrown graph.now growing.0 growing.1.items growing.2) }
+    ensures growth { IfOk result.0 (IsGrowthOver graph.now growing.0 growing.1.items growing.2) }
     ensures many { IfOk result.1 (λ back. length back.items ≡ length sessions.items) }
     ensures each { IfOk result.1 (λ back. (k : ℕ) (e : SessionType) (d : Result ServedType NoMemoryType) → k < length sessions.items →
         HasSat graph.now scripts.now (slice_index_or sessions.items k e) (slice_index_or back.items k d)) }
@@ -51,7 +51,7 @@ pub(crate) fn run_both<R: Threads + Sync, G: Gate>(
         rt,
         move || -> Result<GrownSeat, NoMemory>
             requires { IsSync R.row × CanGrow graph.now seat cells.items growers }
-            ensures { IfOk result (HasGrown graph.entry.now seat cells.items growers) }
+            ensures { IfOk result (IsGrowthOver graph.entry.now seat cells.items growers) }
         { grow_by(rt, alloc, graph, seat, cells, growers, gate) },
         move || -> Result<Vec<Result<Served, NoMemory>>, NoMemory>
             requires { IsSync R.row × All (CanSit graph.now scripts.now) sessions.items }
@@ -73,7 +73,7 @@ fn grow_by<R: Threads + Sync, G: Gate>(
     gate: &G,
 ) -> Result<GrownSeat, NoMemory>
     requires { CanGrow graph.now seat cells.items growers }
-    ensures { IfOk result (HasGrown graph.now seat cells.items growers) }
+    ensures { IfOk result (IsGrowthOver graph.now seat cells.items growers) }
 {
     let mut seat = seat;
     match grow(rt, alloc, graph, &mut seat, cells, growers, gate) {

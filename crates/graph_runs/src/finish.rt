@@ -5,7 +5,7 @@ ghost use Rattle.graph_history.specs.Laws.{HasRoots};
 ghost use Rattle.graph_rule.specs.Rule.{whole};
 ghost use Rattle.graph_rule.specs.Values.{Belongs};
 ghost use Rattle.graph_runs.specs.Runs.{Ends};
-ghost use Rattle.graph_runs.specs.Ending.{CanEnd, IsLeft, IsEntered, IsOver};
+ghost use Rattle.graph_runs.specs.Ending.{CanEnd, IsLeft, HasEnteredRoots, IsOver};
 
 use canonical_graph::Finished;
 use crystal_growers::{Grown, finished, grow};
@@ -48,7 +48,7 @@ pub(crate) fn finish<R: Threads + Sync, G: Gate>(
 fn enter_roots(graph: &Graph, seat: &mut Seat, cells: &mut Vec<u32>) -> Result<bool, NoMemory>
     requires belongs { Belongs seat.old graph.now }
     requires pledge { seat.old.view.dues.pledge ≡ 0 }
-    ensures { IfOk result (IsEntered graph.now.world seat.old seat.new cells.old.items cells.new.items) }
+    ensures { IfOk result (HasEnteredRoots graph.now.world seat.old seat.new cells.old.items cells.new.items) }
 {
     let _stake = seat.stake();
     let roots = graph.world().roots().as_slice();

@@ -1,8 +1,8 @@
 //! Growth by calls and on threads, beside sessions and alone.
 //!
 //! Tests alone, which promise nothing: the check of a crate's tests proves the crate a second time, so they stand
-//! behind the crates that they try. parcel_deques: `gatherings`, `parcels`; crystal_growers: `growers`, `growths`;
-//! graph_runs: `runs`.
+//! behind the crates that they try. The modules in the order of the crates, which is the one to read them in:
+//! `parcels`, `gatherings` of parcel_deques; `growers`, `growths` of crystal_growers; `runs` of graph_runs.
 #![tactic(auto)]
 
 #[cfg(test)]

@@ -1,6 +1,5 @@
 //! A module for each crate, or for each thing that is tried of it.
 
-mod asks;
 mod desks;
 mod jobs;
 mod modes;

@@ -3,7 +3,7 @@ use Rattle.std.proofs.Common.{◌≡◌, ◌∙◌, refl, ap, ℕ, ◌*◌, ◌�
 use Rattle.std.proofs.lemmas.List.Elements.{All-nil, All-cons}
 use Rattle.std.specs.Prelude.{codes}
 use Rattle.std.specs.List.{flat_map, list_all}
-use Rattle.crystal_streams.specs.Lines.{ended as with_end}
+use Rattle.crystal_streams.specs.Lines.{ended}
 use Rattle.tensor_words.specs.Codes.{code_of}
 use Rattle.job_text.specs.declared.commands.Command.{Command}
 use Rattle.job_text.specs.declared.drafts.State.{State}
@@ -12,7 +12,7 @@ use Rattle.job_text.specs.declared.keys.Part.{Part}
 use Rattle.job_text.specs.declared.keys.Part.TheVariants as part
 use Rattle.job_text.specs.declared.jobs.Job.{Job}
 use Rattle.job_text.specs.Drafts.{job_of}
-use Rattle.job_text.specs.Judge.{judge, ended}
+use Rattle.job_text.specs.Judge.{judge, at_end}
 use Rattle.job_text.specs.Samples.{SampleHead, sample_head, number_behind, session_lines, sample_session, sample_lines, sample, SamplesAreJobs, SamplesAreShort}
 use Rattle.job_text.proofs.SampleLines.{after_lines, after_append, is_plain, text_judged, text_length, plain_append}
 use Rattle.job_text.proofs.SampleCommands.{progress}
@@ -21,13 +21,13 @@ use Rattle.job_text.proofs.SampleHeads.{IsHead, head_draft, head_is}
 
 -- a draft with a start ends in its job
 ends : (h : SampleHead) (is : IsHead h) (scripts : List (List Command)) (p : Part) →
-    ended (Headed (progress p (scripted (head_draft h is.top is.starts is.cells) scripts))) ≡ Ok (job_of (scripted (head_draft h is.top is.starts is.cells) scripts))
-unfolding ended
+    at_end (Headed (progress p (scripted (head_draft h is.top is.starts is.cells) scripts))) ≡ Ok (job_of (scripted (head_draft h is.top is.starts is.cells) scripts))
+unfolding at_end
 ends h is scripts p = rw is.begun refl
 
 -- the job of a head alone
 pub record IsHeadJob (number : ℕ) (j : Job) : Type 0 where
-  pub judged : judge (flat_map with_end (codes "crystal-job 1" ∷ (sample_head number).lines)) ≡ Ok j
+  pub judged : judge (flat_map ended (codes "crystal-job 1" ∷ (sample_head number).lines)) ≡ Ok j
   pub space : j.world.space ≡ (sample_head number).space
   pub start : j.starts ≡ code_of (sample_head number).space (sample_head number).start ∷ []
 
@@ -44,7 +44,7 @@ head_judged number =
       },
     )
 
-pub head_length : (number : ℕ) → length (flat_map with_end (codes "crystal-job 1" ∷ (sample_head number).lines)) ≤ 1048576
+pub head_length : (number : ℕ) → length (flat_map ended (codes "crystal-job 1" ∷ (sample_head number).lines)) ≤ 1048576
 head_length number =
     let is = head_is number in
     omega (arith, text_length (codes "crystal-job 1" ∷ (sample_head number).lines) is.plain, is.few)

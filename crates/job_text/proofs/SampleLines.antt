@@ -7,11 +7,11 @@ use Rattle.std.proofs.lemmas.Bool.{and_parts, leb-true}
 use Rattle.std.proofs.lemmas.Bool.Decides.{nat_tests}
 use Rattle.text_pieces.specs.Pieces.{pieces, has_none, are_printed}
 use Rattle.text_pieces.proofs.Cuts.{piece_before}
-use Rattle.crystal_streams.specs.Lines.{ended as with_end}
+use Rattle.crystal_streams.specs.Lines.{ended}
 use Rattle.job_text.specs.declared.drafts.State.{State}
 use Rattle.job_text.specs.declared.drafts.State.TheVariants.{Unread}
 use Rattle.job_text.specs.declared.jobs.Job.{Job}
-use Rattle.job_text.specs.Judge.{Judged, and_then, at_line, line_made, ended, judged_from, judge}
+use Rattle.job_text.specs.Judge.{Judged, and_then, at_line, line_made, at_end, judged_from, judge}
 use Rattle.job_text.proofs.LineSteps.{line_taken}
 
 -- the state behind lines
@@ -49,7 +49,7 @@ line_in_front n s mid line rest printed made =
     ∙ line_taken n s mid line rest (ap (at_line n) made)
 
 text_after : (n : ℕ) (lines : List (List ℕ)) (s t : State) (rest : List ℕ) → list_all is_plain lines ≡ true → after_lines lines s ≡ Ok t →
-    judged_from n s (pieces 10 (flat_map with_end lines ++ rest)) ≡ judged_from (n + length lines) t (pieces 10 rest)
+    judged_from n s (pieces 10 (flat_map ended lines ++ rest)) ≡ judged_from (n + length lines) t (pieces 10 rest)
 text_after n [] s t rest good is =
     let same : s ≡ t = cc in
     let last : n ≡ n + 0 = omega arith in
@@ -58,32 +58,32 @@ text_after n (line ∷ lines) s t rest good is =
     let (here, there) = and_parts (is_plain line) (list_all is_plain lines) good in
     let (printed, short) = and_parts (are_printed line) (nat_le (length line) 199) here in
     let count : n + 1 + length lines ≡ n + length (line ∷ lines) = omega arith in
-    elim (line_made line s) as (λ r. line_made line s ≡ r → and_then r (after_lines lines) ≡ Ok t → judged_from n s (pieces 10 (flat_map with_end (line ∷ lines) ++ rest)) ≡ judged_from (n + length (line ∷ lines)) t (pieces 10 rest)) [
+    elim (line_made line s) as (λ r. line_made line s ≡ r → and_then r (after_lines lines) ≡ Ok t → judged_from n s (pieces 10 (flat_map ended (line ∷ lines) ++ rest)) ≡ judged_from (n + length (line ∷ lines)) t (pieces 10 rest)) [
       | Ok mid ↦ λ made h.
-          ap (λ text. judged_from n s (pieces 10 text)) (append_assoc (line ++ 10 ∷ []) (flat_map with_end lines) rest)
-          ∙ line_in_front n s mid line (flat_map with_end lines ++ rest) printed made
+          ap (λ text. judged_from n s (pieces 10 text)) (append_assoc (line ++ 10 ∷ []) (flat_map ended lines) rest)
+          ∙ line_in_front n s mid line (flat_map ended lines ++ rest) printed made
           ∙ text_after (n + 1) lines mid t rest there h
           ∙ ap (λ k. judged_from k t (pieces 10 rest)) count
       | Err why ↦ λ made h. cc
     ] refl is
 
 -- the text of lines that lead to a state is judged as this state ends
-pub text_judged : (lines : List (List ℕ)) (t : State) (j : Job) → list_all is_plain lines ≡ true → after_lines lines Unread ≡ Ok t → ended t ≡ Ok j →
-    judge (flat_map with_end lines) ≡ Ok j
+pub text_judged : (lines : List (List ℕ)) (t : State) (j : Job) → list_all is_plain lines ≡ true → after_lines lines Unread ≡ Ok t → at_end t ≡ Ok j →
+    judge (flat_map ended lines) ≡ Ok j
 unfolding judge
 text_judged lines t j good leads last =
-    ap (λ text. judged_from 1 Unread (pieces 10 text)) (sym (append-nil (flat_map with_end lines)))
+    ap (λ text. judged_from 1 Unread (pieces 10 text)) (sym (append-nil (flat_map ended lines)))
     ∙ text_after 1 lines Unread t [] good leads
     ∙ ap (at_line (1 + length lines)) last
 
-pub text_length : (lines : List (List ℕ)) → list_all is_plain lines ≡ true → length (flat_map with_end lines) ≤ 200 * length lines
+pub text_length : (lines : List (List ℕ)) → list_all is_plain lines ≡ true → length (flat_map ended lines) ≤ 200 * length lines
 text_length [] good = omega arith
 text_length (line ∷ lines) good =
     let (here, there) = and_parts (is_plain line) (list_all is_plain lines) good in
     let (printed, short) = and_parts (are_printed line) (nat_le (length line) 199) here in
     omega (
       arith,
-      length-append (line ++ 10 ∷ []) (flat_map with_end lines),
+      length-append (line ++ 10 ∷ []) (flat_map ended lines),
       length-append line (10 ∷ []),
       leb-true (length line) 199 short,
       text_length lines there,

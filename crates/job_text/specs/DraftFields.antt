@@ -12,5 +12,5 @@ draft_seen d = record {
   asks = d.asks.items;
 }
 
-abbrev pub IsKept : Inside → Type 0
-IsKept d = IsDraft (draft_seen d)
+abbrev pub KeepsDraft : Inside → Type 0
+KeepsDraft d = IsDraft (draft_seen d)

@@ -254,13 +254,13 @@ abbrev pub finished : Known → Judged Job
 finished (Begun d) = unless (is_some d.top || not (length d.starts == 0)) Missing (Ok (job_of d))
 finished _ = Err Missing
 
-unfoldable pub ended : State → Judged Job
-ended Unread = Err BadHeader
-ended (Headed p) = finished p.known
+unfoldable pub at_end : State → Judged Job
+at_end Unread = Err BadHeader
+at_end (Headed p) = finished p.known
 
 -- what stands behind the last end of a line: nothing, or a line that is not ended
 abbrev pub tail_judged : List ℕ → State → Judged Job
-tail_judged [] state = ended state
+tail_judged [] state = at_end state
 tail_judged (byte ∷ bytes) state = Err BadByte
 
 -- a judgement of a line, with its number

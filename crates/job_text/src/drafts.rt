@@ -53,11 +53,11 @@ impl Model for Draft {
 
     ghost Value = { Drafted };
 
-    ghost use Rattle.job_text.specs.DraftFields.{draft_seen, IsKept};
+    ghost use Rattle.job_text.specs.DraftFields.{draft_seen, KeepsDraft};
 
     ghost view = { draft_seen };
 
-    ghost invariant = { IsKept };
+    ghost invariant = { KeepsDraft };
 }
 
 /// What a job is known to be.

@@ -72,16 +72,16 @@ fn tail_at(alloc: Global, line: u32, text: &[u8], state: State) -> Result<Job, J
             why: JobWhy::BadByte,
         });
     }
-    match ended(alloc, state) {
+    match at_end(alloc, state) {
         Ok(job) => Ok(job),
         Err(stop) => Err(stop.at_line(line)),
     }
 }
 
 /// What a state gives behind the last line.
-#[tactic(auto, unfolding(crate::specs::Judge::ended))]
-fn ended(alloc: Global, state: State) -> Result<Job, Stop>
-    ensures given { Gives result (spec.ended state) }
+#[tactic(auto, unfolding(crate::specs::Judge::at_end))]
+fn at_end(alloc: Global, state: State) -> Result<Job, Stop>
+    ensures given { Gives result (spec.at_end state) }
     ensures job { IfOk result IsJob }
 {
     match state {

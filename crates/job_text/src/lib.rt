@@ -30,4 +30,4 @@ mod samples;
 pub use commands::{Ask, Asks, Command, Indices, Script, Scripts};
 pub use faults::{JobFault, JobWhy};
 pub use jobs::{Job, read_job};
-pub use samples::{sample_job, sample_text, samples_are_jobs, word_with};
+pub use samples::{sample_job, sample_text, samples_are_jobs};

@@ -15,7 +15,7 @@ use crystal_cartan::Cartan;
 use crystal_streams::{Line, NoMemory, push_line};
 use std::alloc::Global;
 use tableau_reading::print_word;
-use tensor_words::{Space, Word};
+use tensor_words::{Space, Word, word_with};
 
 /// The sessions of a sample.
 const SESSIONS: u32 = 4;
@@ -90,18 +90,6 @@ fn head_text(number: u32) -> &'static [u8]
         1 => b"crystal-job 1\ntype B 3\nspace s v v v\nstart +++ 2 1 1\ncells 2048\n",
         2 => b"crystal-job 1\ntype C 4\nshape 4 3 2 1\ncells 200000\n",
         _ => b"crystal-job 1\ntype D 4\nshape 3 2 1\ncells 16384\n",
-    }
-}
-
-/// The word of the space with this code.
-pub fn word_with(space: &Space, code: u64) -> Word
-    requires { code < size space.now }
-    ensures value { result ≡ word_of space.now code }
-    ensures word { IsWord space.now result }
-{
-    match space.word_of(code) {
-        Some(word) => word,
-        None => unreachable!(),
     }
 }
 

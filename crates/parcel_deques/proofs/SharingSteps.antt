@@ -11,7 +11,7 @@ use Rattle.parcel_deques.specs.Rule.{whole, hand, cut_left, cut_right}
 use Rattle.parcel_deques.specs.Ends.{DequeId, EndValue}
 use Rattle.parcel_deques.specs.Owners.{OwnValue}
 use Rattle.parcel_deques.specs.Benches.{BenchValue, IsEnd, IsBench, bench_of, gone, away_from, pass_taken, passes_taken}
-use Rattle.parcel_deques.specs.Making.{IsNew, AreNew}
+use Rattle.parcel_deques.specs.Making.{IsNewBench, AreNew}
 use Rattle.parcel_deques.specs.Sharing.{deques, IsSharing, AreSharing, HasGiven, AreGiving, AreEnds, AreParts, AreMade}
 
 -- an element of a list
@@ -173,7 +173,7 @@ module _ (growers capacity k : ℕ) (owns : List OwnValue) (o : OwnValue) (ends 
       by true is = refl
       by false is = ap (gone j) (each 0 e (omega arith) (λ same. eqb-false j n is (omega arith))).1
 
-  pub is_new : IsNew (deques owns) capacity k (bench_of o ends)
+  pub is_new : IsNewBench (deques owns) capacity k (bench_of o ends)
   is_new = record {
     apart = record {
       number = number_is;
@@ -206,7 +206,7 @@ are_new growers capacity owns lists bs s ends m = record {
   each = λ k b within.
       let many = s.many in
       let d = some_of owns (omega arith) in
-      subst (λ (x : BenchValue). IsNew (deques owns) capacity k x) (sym (m.each k d [] b (omega arith)))
+      subst (λ (x : BenchValue). IsNewBench (deques owns) capacity k x) (sym (m.each k d [] b (omega arith)))
       (is_new growers capacity k owns (get_or owns k d) (get_or lists k []) (s.each k d within) (ends k [] within) s.many within);
 }
 

@@ -17,7 +17,7 @@ pub record AreApart (bs : List BenchValue) : Type 0 where
   pub each : (k : ℕ) (d : BenchValue) → k < length bs → IsApart call k (slice_index_or bs k d)
 
 -- such a bench that has done nothing yet
-pub record IsNew (call : List DequeId) (capacity k : ℕ) (b : BenchValue) : Type 0 where
+pub record IsNewBench (call : List DequeId) (capacity k : ℕ) (b : BenchValue) : Type 0 where
   pub apart : IsApart call k b
   pub pushed : b.pushed ≡ []
   pub taken : b.taken ≡ []
@@ -28,4 +28,4 @@ pub record AreNew (growers capacity : ℕ) (bs : List BenchValue) : Type 0 where
   pub many : length bs ≡ growers
   pub call : List DequeId
   pub long : length call ≡ growers
-  pub each : (k : ℕ) (d : BenchValue) → k < growers → IsNew call capacity k (slice_index_or bs k d)
+  pub each : (k : ℕ) (d : BenchValue) → k < growers → IsNewBench call capacity k (slice_index_or bs k d)

@@ -52,7 +52,7 @@ abbrev pub taken_weight : (Slip → ℕ) → List Hand → ℕ
 taken_weight h = weigh (λ (v : Hand). weigh h v.taken)
 
 -- what the rule says of one view: one alone may push, and knows all that was pushed; a view without a share has nothing
-pub record Fits (deque owner : ℕ) (pushed : List Slip) (port : ℕ) (v : Hand) : Type 0 where
+pub record FitsDeque (deque owner : ℕ) (pushed : List Slip) (port : ℕ) (v : Hand) : Type 0 where
   pub pushes : v.pushes ≡ true → (port ≡ owner) × (v.pushed ≡ pushed)
   pub idle : v.share ≡ 0 → v.taken ≡ []
   pub deque_is : 0 < v.share → v.deque ≡ deque
@@ -60,7 +60,7 @@ pub record Fits (deque owner : ℕ) (pushed : List Slip) (port : ℕ) (v : Hand)
 
 -- the taken slips are the first of those that were pushed, the deque holds the rest, and each taken slip is noted by just
 -- one view. The views with a share hold the whole together
-pub record Holds (items : List Slip) (views : List Hand) : Type 0 where
+pub record DequeHolds (items : List Slip) (views : List Hand) : Type 0 where
   pub owner : ℕ
   pub deque : ℕ
   pub pushed : List Slip
@@ -69,11 +69,11 @@ pub record Holds (items : List Slip) (views : List Hand) : Type 0 where
   pub tagged : AllTagged deque 0 pushed
   pub whole_is : shares views ≡ whole
   pub each : (h : Slip → ℕ) → taken_weight h views ≡ weigh h taken
-  pub fits : (port : ℕ) (v : Hand) → get_elem? views port ≡ some v → Fits deque owner pushed port v
+  pub fits : (port : ℕ) (v : Hand) → get_elem? views port ≡ some v → FitsDeque deque owner pushed port v
 
 -- at some moment at which this was the view of some pass, the deque was empty
 abbrev pub WasEmpty : Hand → Type 0
-WasEmpty v = (port : ℕ) × (views : List Hand) × Holds [] views × (get_elem? views port ≡ some v)
+WasEmpty v = (port : ℕ) × (views : List Hand) × DequeHolds [] views × (get_elem? views port ≡ some v)
 
 -- the same, and the owner with the whole share has taken all that was pushed
 abbrev pub Drained : Hand → Type 0

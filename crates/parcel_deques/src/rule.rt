@@ -1,7 +1,7 @@
 //! The rule of a deque, and what each step of it tells. The numbers of a cut are told by ghost members, which a private
 //! function picks.
 ghost use Rattle.std.specs.Prelude.{ℕ};
-ghost use Rattle.parcel_deques.specs.Rule.{Holds, founder, spent, cut_left, cut_right, absorbed, IsLoading, IsTaking, Drained};
+ghost use Rattle.parcel_deques.specs.Rule.{DequeHolds, founder, spent, cut_left, cut_right, absorbed, IsLoading, IsTaking, Drained};
 
 use crate::parcel::{Naming, Parcel, Slip};
 use crossbeam_deque::protocol::{Join, Outcome, Protocol, Split};
@@ -23,9 +23,9 @@ pub struct Hand {
 pub struct Ruled;
 
 impl<J: Naming> Protocol<Parcel<J>, Hand> for Ruled {
-    ghost use Rattle.parcel_deques.specs.Rule.{Holds, founder, spent};
+    ghost use Rattle.parcel_deques.specs.Rule.{DequeHolds, founder, spent};
 
-    ghost holds = { Holds };
+    ghost holds = { DequeHolds };
 
     ghost first = { founder };
 

@@ -4,9 +4,8 @@ ghost use Rattle.session_desk.specs.Texts.{IsPrintable, reply_text};
 
 use crystal_cartan::Weight;
 use crystal_streams::Line;
-use job_text::word_with;
 use tableau_reading::{print_weight, print_word};
-use tensor_words::Space;
+use tensor_words::{Space, word_with};
 
 /// What a session is told of a command.
 #[derive(Clone, Copy, Debug, PartialEq, Eq)]

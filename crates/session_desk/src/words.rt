@@ -6,8 +6,7 @@ ghost use Rattle.session_desk.specs.Replies.{weight_at, eps_at, phi_at};
 ghost use Rattle.session_desk.specs.Texts.{IsPrintable};
 
 use crate::reply::Reply;
-use job_text::word_with;
-use tensor_words::Space;
+use tensor_words::{Space, word_with};
 
 /// The weight of a word.
 #[tactic(auto, unfolding(crate::specs::Replies::weight_at))]

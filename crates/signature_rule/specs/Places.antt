@@ -8,7 +8,7 @@ use Rattle.tensor_words.specs.Spaces.{SpaceType}
 use Rattle.tensor_words.specs.TensorRule.{action}
 use Rattle.signature_rule.specs.Passes.{IsLowerPlace, IsRaisePlace}
 use Rattle.signature_rule.specs.declared.places.ActingPlaces.{ActingPlaces}
-use Rattle.signature_rule.specs.declared.places.Strings.{Strings}
+use Rattle.signature_rule.specs.declared.places.StringLengths.{StringLengths}
 
 -- the place that an entry names: 255 names none
 abbrev pub place_in : ℕ → Option ℕ
@@ -35,6 +35,6 @@ pub record ArePlaces (s : SpaceType) (w : List ℕ) (p : ActingPlaces) : Type 0 
   pub raise : (i : ℕ) → HasIndex s.cartan i → MatchOption (place_in (slice_index p.raise (i - 1))) ((action s i).raise w ≡ None) (IsRaisePlace s i w)
 
 -- at each entry of an index how often its operators can be applied to the word
-pub record AreStrings (s : SpaceType) (w : List ℕ) (r : Strings) : Type 0 where
+pub record AreStrings (s : SpaceType) (w : List ℕ) (r : StringLengths) : Type 0 where
   pub eps : (i : ℕ) → HasIndex s.cartan i → slice_index r.eps (i - 1) ≡ (action s i).eps w
   pub phi : (i : ℕ) → HasIndex s.cartan i → slice_index r.phi (i - 1) ≡ (action s i).phi w

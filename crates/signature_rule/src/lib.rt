@@ -28,5 +28,5 @@ pub use arrow_order::arrow_at;
 pub use last_word::LastWord;
 pub use laws::{word_laws, words_are_seminormal};
 pub use operators::{act, eps, lower, phi, raise};
-pub use places::{ActingPlaces, Strings, lowered_code, places_of, raised_code, strings_of};
+pub use places::{ActingPlaces, StringLengths, lowered_code, places_of, raised_code, strings_of};
 pub use raising::lift;

@@ -26,7 +26,7 @@ pub struct ActingPlaces {
 
 /// How often e_i and f_i can be applied to a word: the entry of an index i stands at the index less 1.
 #[derive(Clone, Copy, Debug, PartialEq, Eq)]
-pub struct Strings {
+pub struct StringLengths {
     pub eps: [u8; 8],
     pub phi: [u8; 8],
 }
@@ -62,7 +62,7 @@ pub fn places_of(steps: &Steps, word: &Word) -> ActingPlaces
 }
 
 /// How often the operators of all indices can be applied to the word.
-pub fn strings_of(steps: &Steps, word: &Word) -> Strings
+pub fn strings_of(steps: &Steps, word: &Word) -> StringLengths
     requires { IsWord steps.now word.now }
     ensures { AreStrings steps.now word.now result }
 {
@@ -77,11 +77,11 @@ pub fn strings_of(steps: &Steps, word: &Word) -> Strings
         open = open_behind(open, closing, opening_signs(order, row));
     }
     match order {
-        Order::Standard => Strings {
+        Order::Standard => StringLengths {
             eps: open.to_array(),
             phi: left_over.to_array(),
         },
-        Order::Kashiwara => Strings {
+        Order::Kashiwara => StringLengths {
             eps: left_over.to_array(),
             phi: open.to_array(),
         },

@@ -8,8 +8,9 @@ use Rattle.std.proofs.lemmas.List.Elements.{All-map}
 use Rattle.crystal_cartan.specs.Types.{CartanType, coordinates, coordinates_of}
 use Rattle.crystal_cartan.specs.declared.types.Kind.{Kind}
 use Rattle.crystal_cartan.specs.declared.types.Kind.TheVariants.{A, B, C, D}
+use Rattle.crystal_cartan.specs.Weights.{IsWithin}
 use Rattle.spin_crystals.specs.Signs.{plus, signs_of_number, HasSpin, has_spin}
-use Rattle.spin_crystals.specs.SpinCrystals.{signs_weight, sign_coordinate, IsHalfUnit}
+use Rattle.spin_crystals.specs.SpinCrystals.{signs_weight, sign_coordinate}
 use Rattle.spin_crystals.proofs.Bits.{nat_le-div}
 
 -- a weight has as many coordinates as the vector has signs
@@ -53,12 +54,12 @@ plus_coordinate n b j low high clear =
     rw (sign_test n b j low high, test) refl
 
 -- every coordinate is half a unit either way
-half_unit : (s : Bool) → IsHalfUnit (if s then negsuc 0 else pos 1)
+half_unit : (s : Bool) → IsWithin 1 (if s then negsuc 0 else pos 1)
 half_unit true = (omega (arith, ints), omega (arith, ints))
 half_unit false = (omega (arith, ints), omega (arith, ints))
 
-pub signs_weight-small : (t : CartanType) (v : List Bool) → All IsHalfUnit (signs_weight t v)
+pub signs_weight-small : (t : CartanType) (v : List Bool) → All (IsWithin 1) (signs_weight t v)
 unfolding signs_weight
 signs_weight-small t v =
-    All-map IsHalfUnit (sign_coordinate v) (range_with_len 1 t.rank)
+    All-map (IsWithin 1) (sign_coordinate v) (range_with_len 1 t.rank)
     (λ i d below. half_unit (slice_index_or v (slice_index_or (range_with_len 1 t.rank) i d - 1) plus))

@@ -1,9 +1,9 @@
 -- The spin crystals of the types B and D (Bump and Schilling, Crystal Bases, 2017, chapter 5).
-use Rattle.std.specs.Prelude.{ℕ, ◌-◌, nat_lt, Bool, if◌then◌else◌, List, [], ◌∷◌, ◌++◌, map, slice_index_or, ℤ, pos, negsuc, ◌≤ℤ◌}
+use Rattle.std.specs.Prelude.{ℕ, ◌-◌, nat_lt, Bool, if◌then◌else◌, List, [], ◌∷◌, ◌++◌, map, slice_index_or, ℤ, pos, negsuc}
 use Rattle.std.specs.List.{flat_map}
 use Rattle.crystal_cartan.specs.Types.{CartanType}
 use Rattle.crystal_cartan.specs.Weights.{weight_from}
-use Rattle.crystal_cartan.specs.Crystals.{Edge, edge, Action, action, carried}
+use Rattle.crystal_cartan.specs.Crystals.{Edge, edge, Action, edge_action, carried}
 use Rattle.crystal_cartan.specs.declared.types.Kind.{Kind}
 use Rattle.crystal_cartan.specs.declared.types.Kind.TheVariants.{A, B, C, D}
 use Rattle.spin_crystals.specs.declared.signs.Half.{Half}
@@ -29,7 +29,7 @@ spin_edges t i = if nat_lt i t.rank then exchange_edges t.rank i else last_spin_
 
 -- how the index i acts on vectors of signs
 unfoldable pub signs_action : CartanType → ℕ → Action (List Bool)
-signs_action t i = action same_signs (spin_edges t i) i
+signs_action t i = edge_action same_signs (spin_edges t i) i
 
 -- the same on their digits
 unfoldable pub spin_digit_action : CartanType → Half → ℕ → Action ℕ
@@ -42,7 +42,3 @@ sign_coordinate v j = if slice_index_or v (j - 1) plus then negsuc 0 else pos 1
 -- the weight of a vector: half the sum of the signed unit vectors; doubled
 unfoldable pub signs_weight : CartanType → List Bool → List ℤ
 signs_weight t v = weight_from t.rank (sign_coordinate v)
-
--- a doubled coordinate of a spin weight: -1 to 1
-abbrev pub IsHalfUnit : ℤ → Type 0
-IsHalfUnit x = (negsuc 0 ≤ℤ x) × (x ≤ℤ pos 1)

@@ -1,8 +1,8 @@
 //! Weights of vectors of signs.
 ghost use Rattle.std.specs.Prelude.{◌≡◌, ◌≤◌, All};
-ghost use Rattle.crystal_cartan.specs.Weights.{IsWeight};
+ghost use Rattle.crystal_cartan.specs.Weights.{IsWeight, IsWithin};
 ghost use Rattle.spin_crystals.specs.Signs.{HasSpin, IsSigns, vector_of};
-ghost use Rattle.spin_crystals.specs.SpinCrystals.{signs_weight, sign_coordinate, IsHalfUnit};
+ghost use Rattle.spin_crystals.specs.SpinCrystals.{signs_weight, sign_coordinate};
 
 use crate::signs::Signs;
 use crystal_cartan::{Cartan, Weight};
@@ -13,7 +13,7 @@ pub fn weight(cartan: Cartan, x: Signs) -> Weight
     requires element { IsSigns cartan x }
     ensures value { result ≡ signs_weight cartan (vector_of x) }
     ensures size { IsWeight cartan result }
-    ensures small { All IsHalfUnit result }
+    ensures small { All (IsWithin 1) result }
 {
     let mut weight = Weight::zero(cartan);
     'places: for place in 0..cartan.rank() {

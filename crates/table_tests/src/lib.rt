@@ -1,8 +1,8 @@
 //! The shared table by calls and on threads, and a history over lists in memory.
 //!
 //! Tests alone, which promise nothing: the check of a crate's tests proves the crate a second time, so they stand
-//! behind the crates that they try. intern_cells: `cells`, `crowds`, `tight_seats`; edge_words: `edges`; graph_history:
-//! `histories`; graph_rule: `rules`.
+//! behind the crates that they try. The modules, in an order to read them in: `histories` of graph_history; `edges` of
+//! edge_words; `cells`, `tight_seats`, `crowds` of intern_cells; `rules` of graph_rule.
 #![tactic(auto)]
 
 #[cfg(test)]

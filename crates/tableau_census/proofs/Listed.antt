@@ -10,7 +10,7 @@ use Rattle.crystal_cartan.specs.Types.{CartanType}
 use Rattle.crystal_cartan.specs.declared.types.Kind.TheVariants.{A}
 use Rattle.tableau_reading.specs.Shapes.{ShapeType, tableau_shape, IsShape, box_count, shape_space}
 use Rattle.tensor_words.specs.Codes.{IsWord, code_of, is_before}
-use Rattle.tableau_census.specs.Listing.{low_in, top_in, IsBounded, completion_codes}
+use Rattle.tableau_census.specs.Listing.{low_in, bound_in, IsBounded, completion_codes}
 use Rattle.tableau_census.specs.Laws.{IsBeginning}
 use Rattle.tableau_census.proofs.ShapeWords.{before_below}
 use Rattle.tensor_words.proofs.Walks.{Rises}
@@ -107,7 +107,7 @@ module _ (t : CartanType) (rows : List ℕ) (h : IsShape (tableau_shape t rows))
   put_size w k d size = length-set w k d ∙ size
 
   -- the digit at the next place is chosen
-  put_completes : (k d : ℕ) (w v : List ℕ) → length w ≡ box_count here → k < box_count here → low_in here w k ≤ d → d < top_in here w k
+  put_completes : (k d : ℕ) (w v : List ℕ) → length w ≡ box_count here → k < box_count here → low_in here w k ≤ d → d < bound_in here w k
       → Completes here (k + 1) (set w k d) v → Completes here k w v
   put_completes k d w v size lt low high m = record {
     size = m.size;
@@ -125,7 +125,7 @@ module _ (t : CartanType) (rows : List ℕ) (h : IsShape (tableau_shape t rows))
       chosen =
           let bounds = bounds_agree t rows h v w k lt same in
           let digit : get_or v k 0 ≡ d = m.same k (omega arith) ∙ get_or-set_at w k k d 0 refl (omega arith) in
-          record { low = omega (arith, bounds.0); top = omega (arith, bounds.1) }
+          record { low = omega (arith, bounds.0); bound = omega (arith, bounds.1) }
 
   chosen_completes : (k : ℕ) (w v : List ℕ) → length w ≡ box_count here → k < box_count here → Completes here k w v → Completes here (k + 1) (set w k (get_or v k 0)) v
   chosen_completes k w v size lt m = record {
@@ -149,7 +149,7 @@ module _ (t : CartanType) (rows : List ℕ) (h : IsShape (tableau_shape t rows))
       single x c (zero, lt, e) = e
       single x c (suc k, lt, e) = absurd (omega arith)
   listed (suc n) k c w size is there =
-      let found = in_range (λ d. completion_codes here n (k + 1) (set w k d)) (low_in here w k) (top_in here w k - low_in here w k) c there in
+      let found = in_range (λ d. completion_codes here n (k + 1) (set w k d)) (low_in here w k) (bound_in here w k - low_in here w k) c there in
       let rest = listed n (k + 1) c (set w k found.at) (put_size w k found.at size) (omega arith) found.there in
       record {
         word = rest.word;
@@ -166,8 +166,8 @@ module _ (t : CartanType) (rows : List ℕ) (h : IsShape (tableau_shape t rows))
   lists (suc n) k w v size is m =
       let b = m.within k (omega arith) (omega arith) in
       let bounds = bounds_agree t rows h v w k (omega arith) m.same in
-      from_range (λ d. completion_codes here n (k + 1) (set w k d)) (low_in here w k) (top_in here w k - low_in here w k) (code_of (shape_space here) v) (get_or v k 0)
-      (omega (arith, b.low, bounds.0)) (omega (arith, b.low, b.top, bounds.0, bounds.1))
+      from_range (λ d. completion_codes here n (k + 1) (set w k d)) (low_in here w k) (bound_in here w k - low_in here w k) (code_of (shape_space here) v) (get_or v k 0)
+      (omega (arith, b.low, bounds.0)) (omega (arith, b.low, b.bound, bounds.0, bounds.1))
       (lists n (k + 1) (set w k (get_or v k 0)) v (put_size w k (get_or v k 0) size) (omega arith) (chosen_completes k w v size (omega arith) m))
 
   -- ---- ascending
@@ -182,7 +182,7 @@ module _ (t : CartanType) (rows : List ℕ) (h : IsShape (tableau_shape t rows))
     | inr late ↦ m.within j late less
   ]
 
-  put_bounded : (k d : ℕ) (w : List ℕ) → length w ≡ box_count here → k < box_count here → low_in here w k ≤ d → d < top_in here w k
+  put_bounded : (k d : ℕ) (w : List ℕ) → length w ≡ box_count here → k < box_count here → low_in here w k ≤ d → d < bound_in here w k
       → BoundedBefore k w → BoundedBefore (k + 1) (set w k d)
   put_bounded k d w size lt low high before j less = elim (cases_eq j k) [
     | inl at ↦ subst (IsBounded here (set w k d)) (sym at) chosen
@@ -194,11 +194,11 @@ module _ (t : CartanType) (rows : List ℕ) (h : IsShape (tableau_shape t rows))
       chosen =
           let bounds = bounds_agree t rows h (set w k d) w k lt (λ i early. get_or-set_other w k i d 0 (λ e. omega arith)) in
           let digit : get_or (set w k d) k 0 ≡ d = get_or-set_at w k k d 0 refl (omega arith) in
-          record { low = omega (arith, bounds.0); top = omega (arith, bounds.1) }
+          record { low = omega (arith, bounds.0); bound = omega (arith, bounds.1) }
 
   -- words that begin alike, with different digits at the place k
   apart : (n k d e x y : ℕ) (w : List ℕ) → length w ≡ box_count here → suc (k + n) ≡ box_count here → BoundedBefore k w
-      → low_in here w k ≤ d → d < e → e < top_in here w k
+      → low_in here w k ≤ d → d < e → e < bound_in here w k
       → Contains (completion_codes here n (k + 1) (set w k d)) x → Contains (completion_codes here n (k + 1) (set w k e)) y → x < y
   apart n k d e x y w size is before low less high first second =
       let v = listed n (k + 1) x (set w k d) (put_size w k d size) (omega arith) first in
@@ -218,7 +218,7 @@ module _ (t : CartanType) (rows : List ℕ) (h : IsShape (tableau_shape t rows))
   unfolding completion_codes
   ascends zero k w size is before = λ i j d less within. absurd (omega arith)
   ascends (suc n) k w size is before =
-      rises_range (λ d. completion_codes here n (k + 1) (set w k d)) (low_in here w k) (top_in here w k - low_in here w k)
+      rises_range (λ d. completion_codes here n (k + 1) (set w k d)) (low_in here w k) (bound_in here w k - low_in here w k)
       (λ d low high. ascends n (k + 1) (set w k d) (put_size w k d size) (omega arith) (put_bounded k d w size (omega arith) low (omega arith) before))
       (λ d e x y low less high first second. apart n k d e x y w size (omega arith) before low less (omega arith) first second)
 

@@ -11,7 +11,7 @@ use Rattle.tensor_words.specs.declared.spaces.Order.TheVariants.{Standard}
 use Rattle.tensor_words.specs.Spaces.{SpaceType, HasFactors, size}
 use Rattle.tensor_words.specs.Codes.{IsWord, code_of, word_of}
 use Rattle.tensor_words.specs.TensorRule as rule
-use Rattle.tensor_words.specs.TensorRule.{actions}
+use Rattle.tensor_words.specs.TensorRule.{factor_actions}
 use Rattle.tensor_words.specs.Operators.{IsArrow, IsTop, step_of, acted, op}
 use Rattle.tensor_words.specs.Reach.{IsPath, walk, IsReachedFrom}
 use Rattle.tensor_words.proofs.Keeps.{mapped_some, operators_keep_words}
@@ -69,10 +69,10 @@ module _ (t : CartanType) (rows : List ℕ) (h : IsShape (tableau_shape t rows))
       → step_of down (rule.action space (a + 1)) w ≡ Some v → IsSemistandard here v
   unfolding rule.action
   kept_at a true v w index word good made =
-      let m = lowers a (actions space (a + 1)) w v (word_steps here a w h kind index word) made in
+      let m = lowers a (factor_actions space (a + 1)) w v (word_steps here a w h kind index word) made in
       subst (IsSemistandard here) (sym m.now) (lowered_kept t rows h w (length_of_word here w word) good a m.place m.is_open m.within m.was)
   kept_at a false v w index word good made =
-      let m = raises a (actions space (a + 1)) w v (word_steps here a w h kind index word) made in
+      let m = raises a (factor_actions space (a + 1)) w v (word_steps here a w h kind index word) made in
       subst (IsSemistandard here) (sym m.now) (raised_kept t rows h w (length_of_word here w word) good a m.place m.is_open m.within m.was)
 
   pub operator_keeps : (a : Arrow) (v w : List ℕ) → IsArrow space a → IsWord space w → IsSemistandard here w → acted space a w ≡ Some v → IsSemistandard here v
@@ -87,7 +87,7 @@ module _ (t : CartanType) (rows : List ℕ) (h : IsShape (tableau_shape t rows))
   closed_by_eps : (w : List ℕ) → IsWord space w → IsTop space w → (a q : ℕ) → a < t.rank → q < length w → get_or w q 0 ≡ a + 1 → Between w q (length w) a
   unfolding rule.action
   closed_by_eps w word top a q index lt is =
-      no_eps a (actions space (a + 1)) w q (word_steps here a w h kind index word) (top (a + 1) (record { low = omega arith; high = omega arith })) lt is
+      no_eps a (factor_actions space (a + 1)) w q (word_steps here a w h kind index word) (top (a + 1) (record { low = omega arith; high = omega arith })) lt is
 
   pub highest_is_top : (w : List ℕ) → IsWord space w → IsSemistandard here w → IsTop space w → w ≡ top_word here
   highest_is_top w word good top =

@@ -7,7 +7,7 @@ use Rattle.std.specs.Ordering.{int_eq}
 use Rattle.std.proofs.lemmas.Bool.{cases_eq, eqb-true}
 use Rattle.std.proofs.lemmas.Bool.Decides.{nat_tests}
 use Rattle.crystal_cartan.specs.Types.{CartanType, IsCartan}
-use Rattle.crystal_cartan.specs.Crystals.{Action, action, carried}
+use Rattle.crystal_cartan.specs.Crystals.{Action, edge_action, carried}
 use Rattle.crystal_cartan.specs.declared.types.Kind.{Kind}
 use Rattle.crystal_cartan.specs.declared.types.Kind.TheVariants.{A}
 use Rattle.vector_crystals.specs.Letters.{letters_of, letters, letter_count, letter_count_of}
@@ -16,13 +16,13 @@ use Rattle.vector_crystals.proofs.Tables.{and_left, and_right, all_below, below_
 use Rattle.tensor_words.specs.declared.spaces.Factor.TheVariants.{Vector}
 use Rattle.tensor_words.specs.Spaces.{base_size, base_action}
 use Rattle.tensor_words.specs.Codes.{AreDigits, IsWord}
-use Rattle.tensor_words.specs.TensorRule.{actions}
+use Rattle.tensor_words.specs.TensorRule.{factor_actions}
 use Rattle.tableau_reading.specs.Shapes.{ShapeType, IsShape, box_count, shape_space}
 use Rattle.tableau_census.proofs.OpenPlaces.{IsSwap, AreSwaps}
 
 -- how an index acts on digits in type A of a rank
 abbrev acts : ℕ → ℕ → Action ℕ
-acts r i = carried (λ d. slice_index_or (letters_of A r) d (pos 0)) (λ x. position_or_len (λ y. int_eq y x) (letters_of A r)) (action int_eq (vector_edges_of A r) i)
+acts r i = carried (λ d. slice_index_or (letters_of A r) d (pos 0)) (λ x. position_or_len (λ y. int_eq y x) (letters_of A r)) (edge_action int_eq (vector_edges_of A r) i)
 
 -- the digit to which d is taken, if it is the one that is changed
 abbrev taken : ℕ → ℕ → ℕ → Option ℕ
@@ -110,5 +110,5 @@ vector_steps t a zero (d ∷ w) c kind index digits = digits
 vector_steps t a (suc n) [] c kind index digits = digits
 vector_steps t a (suc n) (d ∷ w) c kind index digits = (vector_step t a d c kind index digits.0, vector_steps t a n w c kind index digits.1)
 
-pub word_steps : (s : ShapeType) (a : ℕ) (w : List ℕ) → IsShape s → s.cartan.kind ≡ A → a < s.cartan.rank → IsWord (shape_space s) w → AreSwaps a (actions (shape_space s) (a + 1)) w
+pub word_steps : (s : ShapeType) (a : ℕ) (w : List ℕ) → IsShape s → s.cartan.kind ≡ A → a < s.cartan.rank → IsWord (shape_space s) w → AreSwaps a (factor_actions (shape_space s) (a + 1)) w
 word_steps s a w h kind index word = vector_steps s.cartan a (box_count s) w h.cartan kind index word

@@ -15,8 +15,8 @@ low_at s w r zero = r
 low_at s w r (suc c) = entry s w r c
 
 -- the digits of a box are below this: the digit of the box beneath, and in a column's lowest box the number of letters
-abbrev pub top_at : ShapeType → List ℕ → ℕ → ℕ → ℕ
-top_at s w r c = if nat_lt c (slice_index s.rows (suc r)) then entry s w (suc r) c else letter_count s.cartan
+abbrev pub bound_at : ShapeType → List ℕ → ℕ → ℕ → ℕ
+bound_at s w r c = if nat_lt c (slice_index s.rows (suc r)) then entry s w (suc r) c else letter_count s.cartan
 
 -- the box at a place of the reading, and its two bounds
 abbrev pub box_of : ShapeType → ℕ → Box
@@ -25,19 +25,19 @@ box_of s k = slice_index_or (boxes_read s) k (box 0 0)
 abbrev pub low_in : ShapeType → List ℕ → ℕ → ℕ
 low_in s w k = low_at s w (box_of s k).row (box_of s k).column
 
-abbrev pub top_in : ShapeType → List ℕ → ℕ → ℕ
-top_in s w k = top_at s w (box_of s k).row (box_of s k).column
+abbrev pub bound_in : ShapeType → List ℕ → ℕ → ℕ
+bound_in s w k = bound_at s w (box_of s k).row (box_of s k).column
 
 -- the digit at the place k of the reading is within its bounds
 pub record IsBounded (s : ShapeType) (w : List ℕ) (k : ℕ) : Type 0 where
   pub low : low_in s w k ≤ slice_index w k
-  pub top : slice_index w k < top_in s w k
+  pub bound : slice_index w k < bound_in s w k
 
 -- the codes of the words that differ from w in n places at the most, from the place k on, each digit within its bounds
 unfoldable pub completion_codes : ShapeType → ℕ → ℕ → List ℕ → List ℕ
 completion_codes s zero k w = code_of (shape_space s) w ∷ []
 completion_codes s (suc n) k w =
-    flat_map (λ d. completion_codes s n (k + 1) (slice_set w k d)) (range_with_len (low_in s w k) (top_in s w k - low_in s w k))
+    flat_map (λ d. completion_codes s n (k + 1) (slice_set w k d)) (range_with_len (low_in s w k) (bound_in s w k - low_in s w k))
 
 -- the codes of all of them, from the first box on; the word to begin with may be any
 abbrev pub census_codes : ShapeType → List ℕ

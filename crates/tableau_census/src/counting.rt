@@ -4,7 +4,7 @@ ghost use Rattle.vector_crystals.specs.Letters.{letter_count};
 ghost use Rattle.tensor_words.specs.Codes.{IsWord};
 ghost use Rattle.tensor_words.specs.declared.spaces.Order.TheVariants.{Standard};
 ghost use Rattle.tableau_reading.specs.Shapes.{box_count, shape_space};
-ghost use Rattle.tableau_census.specs.Listing.{low_at, top_at, completion_codes};
+ghost use Rattle.tableau_census.specs.Listing.{low_at, bound_at, completion_codes};
 ghost use Rattle.tableau_census.specs.Outcomes.{IsCounted, IsCompleted};
 
 use crystal_cartan::Kind;
@@ -61,8 +61,8 @@ fn complete(
     }
     let (row, column) = shape.box_at(place);
     let low = lowest(shape, word, row, column);
-    let top = top(shape, word, row, column);
-    'digits: for digit in low..top {
+    let bound = bound(shape, word, row, column);
+    'digits: for digit in low..bound {
         let next = space.put(word, place, digit);
         if let Err(fault) = complete(shape, space, &next, place + 1, limit, list) {
             return Err(fault);
@@ -98,10 +98,10 @@ fn lowest(shape: &Shape, word: &Word, row: u8, column: u8) -> u16
 }
 
 /// The digits that the box may have are below this.
-fn top(shape: &Shape, word: &Word, row: u8, column: u8) -> u16
+fn bound(shape: &Shape, word: &Word, row: u8, column: u8) -> u16
     requires word { IsWord (shape_space shape.now) word.now }
     requires within { column < slice_index shape.now.rows row }
-    ensures top { result ≡ top_at shape.now word.now row column }
+    ensures bound { result ≡ bound_at shape.now word.now row column }
     ensures few { result ≤ letter_count shape.now.cartan }
 {
     let height = shape.height(column);

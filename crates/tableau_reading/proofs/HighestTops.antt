@@ -6,7 +6,7 @@ use Rattle.std.proofs.lemmas.Bool.{eqb-true}
 use Rattle.std.proofs.lemmas.Bool.Decides.{nat_tests}
 use Rattle.std.proofs.lemmas.List.{length-map, map-append, length-reverse, reverse-reverse, replicate-append-replicate}
 use Rattle.crystal_cartan.specs.Types.{CartanType, IsCartan, HasIndex, coordinates, coordinates_of}
-use Rattle.crystal_cartan.specs.Crystals.{action}
+use Rattle.crystal_cartan.specs.Crystals.{edge_action}
 use Rattle.crystal_cartan.specs.declared.types.Kind.{Kind}
 use Rattle.crystal_cartan.specs.declared.types.Kind.TheVariants.{A, B, C, D}
 use Rattle.vector_crystals.specs.Letters.{letter_count_of, letter_at}
@@ -32,8 +32,8 @@ use Rattle.tableau_reading.proofs.VectorSpaces.{all_vectors}
 
 -- the letter 1 cannot be raised, and whenever a letter without a bar can be raised, the one before it can be lowered
 abbrev climb_cell : Kind → ℕ → ℕ → ℕ → Bool
-climb_cell k r i zero = (action int_eq (vector_edges_of k r) i).eps (pos 1) == 0
-climb_cell k r i (suc d) = nat_le ((action int_eq (vector_edges_of k r) i).eps (pos (suc d + 1))) ((action int_eq (vector_edges_of k r) i).phi (pos (d + 1)))
+climb_cell k r i zero = (edge_action int_eq (vector_edges_of k r) i).eps (pos 1) == 0
+climb_cell k r i (suc d) = nat_le ((edge_action int_eq (vector_edges_of k r) i).eps (pos (suc d + 1))) ((edge_action int_eq (vector_edges_of k r) i).phi (pos (d + 1)))
 
 abbrev climb_table : Kind → ℕ → Bool
 climb_table k r = all_below r (λ j. all_below (coordinates_of k r) (climb_cell k r (j + 1)))

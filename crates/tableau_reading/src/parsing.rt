@@ -82,15 +82,15 @@ fn token_digit(cartan: Cartan, factor: Factor, token: &[u8]) -> Option<u16>
     ensures below { IfSome result (λ d. d < base_size cartan factor) }
 {
     match factor {
-        Factor::Vector => letter_digit(cartan, token),
-        Factor::Spin => signs_digit(cartan, Half::Whole, token),
-        Factor::SpinPlus => signs_digit(cartan, Half::Plus, token),
-        Factor::SpinMinus => signs_digit(cartan, Half::Minus, token),
+        Factor::Vector => read_letter(cartan, token),
+        Factor::Spin => read_signs(cartan, Half::Whole, token),
+        Factor::SpinPlus => read_signs(cartan, Half::Plus, token),
+        Factor::SpinMinus => read_signs(cartan, Half::Minus, token),
     }
 }
 
 /// The digit of the letter that a token stands for.
-fn letter_digit(cartan: Cartan, token: &[u8]) -> Option<u16>
+fn read_letter(cartan: Cartan, token: &[u8]) -> Option<u16>
     ensures value { result ≡ option_and_then (digit_if_letter cartan) (letter_value token.now) }
     ensures below { IfSome result (λ d. d < letter_count cartan) }
 {
@@ -135,7 +135,7 @@ fn two_digits(text: &[u8]) -> Option<u8>
 }
 
 /// The digit of the vector that a token of signs stands for.
-fn signs_digit(cartan: Cartan, half: Half, token: &[u8]) -> Option<u16>
+fn read_signs(cartan: Cartan, half: Half, token: &[u8]) -> Option<u16>
     requires half { HasHalf cartan half }
     ensures value { result ≡ read_signs cartan half token.now }
     ensures below { IfSome result (λ d. d < half_size half cartan.rank) }

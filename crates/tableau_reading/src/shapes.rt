@@ -10,13 +10,10 @@ ghost use Rattle.tensor_words.specs.Spaces.{IsSpace};
 
 use crystal_cartan::{Cartan, Weight};
 use std::marker::Model;
-use tensor_words::{Factor, Order, Space};
+use tensor_words::{Factor, MOST_WORDS, Order, Space};
 
 /// The most boxes of a shape.
 const MOST_BOXES: u64 = 40;
-
-/// The most words of as many letters as a shape has boxes.
-const MOST_WORDS: u64 = 1 << 63;
 
 /// Why a list of row lengths makes no shape.
 #[derive(Clone, Copy, Debug, PartialEq, Eq)]

@@ -4,22 +4,22 @@ use Rattle.std.specs.Option.{option_map}
 use Rattle.std.proofs.lemmas.List.{drop_more}
 use Rattle.tensor_words.specs.Spaces.{SpaceType}
 use Rattle.tensor_words.specs.Codes.{IsWord}
-use Rattle.tensor_words.specs.TensorRule.{actions, kashiwara_phi, kashiwara_eps, kashiwara_lower, kashiwara_raise}
+use Rattle.tensor_words.specs.TensorRule.{factor_actions, kashiwara_phi, kashiwara_eps, kashiwara_lower, kashiwara_raise}
 use Rattle.tensor_words.proofs.SpaceWords.{length_word}
 use Rattle.tensor_words.proofs.TensorSteps.{action_at, actions_more, changed_here, changed_after, le_test, not_le_test, lt_test, not_lt_test}
 
 -- phi, eps and the operators on the factors from the place k on
 abbrev pub phi_behind : SpaceType → ℕ → ℕ → List ℕ → ℕ
-phi_behind s i k w = kashiwara_phi (drop k (actions s i)) (drop k w)
+phi_behind s i k w = kashiwara_phi (drop k (factor_actions s i)) (drop k w)
 
 abbrev pub eps_behind : SpaceType → ℕ → ℕ → List ℕ → ℕ
-eps_behind s i k w = kashiwara_eps (drop k (actions s i)) (drop k w)
+eps_behind s i k w = kashiwara_eps (drop k (factor_actions s i)) (drop k w)
 
 abbrev pub lower_behind : SpaceType → ℕ → ℕ → List ℕ → Option (List ℕ)
-lower_behind s i k w = option_map (λ z. take k w ++ z) (kashiwara_lower (drop k (actions s i)) (drop k w))
+lower_behind s i k w = option_map (λ z. take k w ++ z) (kashiwara_lower (drop k (factor_actions s i)) (drop k w))
 
 abbrev pub raise_behind : SpaceType → ℕ → ℕ → List ℕ → Option (List ℕ)
-raise_behind s i k w = option_map (λ z. take k w ++ z) (kashiwara_raise (drop k (actions s i)) (drop k w))
+raise_behind s i k w = option_map (λ z. take k w ++ z) (kashiwara_raise (drop k (factor_actions s i)) (drop k w))
 
 pub eps_step :
     (s : SpaceType) (i k : ℕ) (w : List ℕ) → IsWord s w → k < length s.factors →
@@ -59,7 +59,7 @@ module _ (s : SpaceType) (i k : ℕ) (w : List ℕ) (d eps phi : ℕ) (a : IsAt 
   lower_passed o less is =
       let test : nat_le phi eps ≡ true = le_test _ _ less in
       is ∙ sym (rw (actions_more s i k a.place, drop_more w k 0 within, ← a.rest, read)
-      (rw test (changed_after w k (kashiwara_lower (drop (k + 1) (actions s i)) (drop (k + 1) w)) within)))
+      (rw test (changed_after w k (kashiwara_lower (drop (k + 1) (factor_actions s i)) (drop (k + 1) w)) within)))
 
   pub lower_zero : (o : Option (List ℕ)) → eps < phi → None ≡ (action_at s i k).lower d → o ≡ None → o ≡ lower_behind s i k w
   lower_zero o more none is = is ∙ sym (lower_kept more ∙ ap (option_map (λ e. set w k e)) (sym none))
@@ -76,7 +76,7 @@ module _ (s : SpaceType) (i k : ℕ) (w : List ℕ) (d eps phi : ℕ) (a : IsAt 
   raise_passed o less is =
       let test : nat_lt phi eps ≡ true = lt_test _ _ less in
       is ∙ sym (rw (actions_more s i k a.place, drop_more w k 0 within, ← a.rest, read)
-      (rw test (changed_after w k (kashiwara_raise (drop (k + 1) (actions s i)) (drop (k + 1) w)) within)))
+      (rw test (changed_after w k (kashiwara_raise (drop (k + 1) (factor_actions s i)) (drop (k + 1) w)) within)))
 
   pub raise_zero : (o : Option (List ℕ)) → eps ≤ phi → None ≡ (action_at s i k).raise d → o ≡ None → o ≡ raise_behind s i k w
   raise_zero o more none is = is ∙ sym (raise_kept more ∙ ap (option_map (λ e. set w k e)) (sym none))

@@ -16,7 +16,7 @@ use Rattle.tensor_words.specs.declared.spaces.Factor.{Factor}
 use Rattle.tensor_words.specs.declared.spaces.Factor.TheVariants.{Vector, Spin, SpinPlus, SpinMinus}
 use Rattle.tensor_words.specs.Spaces.{SpaceType, HasFactors, IsSpace, has_factor, base_size, base_action, size}
 use Rattle.tensor_words.specs.Codes.{AreDigits, IsWord, code_of, word_of}
-use Rattle.tensor_words.specs.TensorRule.{action, actions}
+use Rattle.tensor_words.specs.TensorRule.{action, factor_actions}
 use Rattle.tensor_words.specs.Operators.{IsArrow, acted, step_of, op, OperatorsKeepWords}
 use Rattle.tensor_words.proofs.FactorSteps.{IsFactorStep, lowering, raising, lowered_step, raised_step}
 use Rattle.tensor_words.proofs.SpaceWords.{code_below, word_back, IsWord-word_of}
@@ -76,13 +76,13 @@ pub lower_keeps : (s : SpaceType) (i : ℕ) (w u : List ℕ) → HasFactors s �
 unfolding action
 lower_keeps s i w u factors index h is =
     step_digits lowering s.cartan i s.factors w u (λ f d e had below made. lowered_below s.cartan i f d e factors.cartan index had below made)
-    factors.had h (lowered_step s.order (actions s i) w u is)
+    factors.had h (lowered_step s.order (factor_actions s i) w u is)
 
 pub raise_keeps : (s : SpaceType) (i : ℕ) (w u : List ℕ) → HasFactors s → HasIndex s.cartan i → IsWord s w → (action s i).raise w ≡ Some u → IsWord s u
 unfolding action
 raise_keeps s i w u factors index h is =
     step_digits raising s.cartan i s.factors w u (λ f d e had below made. raised_below s.cartan i f d e factors.cartan index had below made)
-    factors.had h (raised_step s.order (actions s i) w u is)
+    factors.had h (raised_step s.order (factor_actions s i) w u is)
 
 pub operators_keep_words : OperatorsKeepWords
 operators_keep_words s a u w factors arrow h is = either a.down is

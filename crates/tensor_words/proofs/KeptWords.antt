@@ -11,7 +11,7 @@ use Rattle.tensor_words.specs.declared.spaces.Factor.{Factor}
 use Rattle.tensor_words.specs.declared.spaces.Factor.TheVariants.{Vector, Spin, SpinPlus, SpinMinus}
 use Rattle.tensor_words.specs.Spaces.{SpaceType, HasFactors, IsSpace, has_factor, base_size, base_action, product}
 use Rattle.tensor_words.specs.Codes.{AreDigits, IsWord, code, code_of}
-use Rattle.tensor_words.specs.TensorRule.{actions, action}
+use Rattle.tensor_words.specs.TensorRule.{factor_actions, action}
 use Rattle.tensor_words.proofs.BaseLaws.{IsLawfulDigit, digit_laws}
 use Rattle.tensor_words.proofs.Digits.{code_in_range}
 use Rattle.tensor_words.proofs.FactorSteps.{IsFactorStep, raising, raised_step}
@@ -62,12 +62,12 @@ raised_word t i (f ∷ fs) (x ∷ w) v c index had digits h =
 pub raise_lowers_code : (s : SpaceType) (i : ℕ) (v w : List ℕ) → HasFactors s → HasIndex s.cartan i → IsWord s w
     → (action s i).raise w ≡ Some v → code_of s v < code_of s w
 unfolding action code_of
-raise_lowers_code s i v w had index is h = (raised_word s.cartan i s.factors w v had.cartan index had.had is (raised_step s.order (actions s i) w v h)).code
+raise_lowers_code s i v w had index is h = (raised_word s.cartan i s.factors w v had.cartan index had.had is (raised_step s.order (factor_actions s i) w v h)).code
 
 pub raise_lowers_sum : (s : SpaceType) (i : ℕ) (v w : List ℕ) → HasFactors s → HasIndex s.cartan i → IsWord s w
     → (action s i).raise w ≡ Some v → digit_sum v < digit_sum w
 unfolding action
-raise_lowers_sum s i v w had index is h = (raised_word s.cartan i s.factors w v had.cartan index had.had is (raised_step s.order (actions s i) w v h)).sum
+raise_lowers_sum s i v w had index is h = (raised_word s.cartan i s.factors w v had.cartan index had.had is (raised_step s.order (factor_actions s i) w v h)).sum
 
 base_few : (t : CartanType) (f : Factor) → IsCartan t → base_size t f ≤ 256
 unfolding base_size

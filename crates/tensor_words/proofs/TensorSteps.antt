@@ -8,34 +8,34 @@ use Rattle.crystal_cartan.specs.Crystals.{Action}
 use Rattle.tensor_words.specs.declared.spaces.Factor.TheVariants.{Vector}
 use Rattle.tensor_words.specs.Spaces.{SpaceType, base_action, factor_at}
 use Rattle.tensor_words.specs.Codes.{IsWord}
-use Rattle.tensor_words.specs.TensorRule.{actions, word_phi, word_eps, word_lower, word_raise}
+use Rattle.tensor_words.specs.TensorRule.{factor_actions, word_phi, word_eps, word_lower, word_raise}
 use Rattle.tensor_words.proofs.SpaceWords.{length_word}
 
 -- how the index i acts on the factor at the place k
 abbrev pub action_at : SpaceType → ℕ → ℕ → Action ℕ
 action_at s i k = base_action s.cartan i (factor_at s k)
 
-pub actions_more : (s : SpaceType) (i k : ℕ) → k < length s.factors → drop k (actions s i) ≡ action_at s i k ∷ drop (k + 1) (actions s i)
+pub actions_more : (s : SpaceType) (i k : ℕ) → k < length s.factors → drop k (factor_actions s i) ≡ action_at s i k ∷ drop (k + 1) (factor_actions s i)
 actions_more s i k lt =
-    let within : k < length (actions s i) = omega (arith, length-map s.factors (base_action s.cartan i)) in
-    drop_more (actions s i) k (base_action s.cartan i Vector) within
-    ∙ ap (λ act. act ∷ drop (k + 1) (actions s i)) (get_or-map (base_action s.cartan i) s.factors k Vector (base_action s.cartan i Vector) lt)
+    let within : k < length (factor_actions s i) = omega (arith, length-map s.factors (base_action s.cartan i)) in
+    drop_more (factor_actions s i) k (base_action s.cartan i Vector) within
+    ∙ ap (λ act. act ∷ drop (k + 1) (factor_actions s i)) (get_or-map (base_action s.cartan i) s.factors k Vector (base_action s.cartan i Vector) lt)
 
-pub actions_all : (s : SpaceType) (i k : ℕ) → length s.factors ≤ k → drop k (actions s i) ≡ []
-actions_all s i k all = drop_all k (actions s i) (omega (arith, length-map s.factors (base_action s.cartan i)))
+pub actions_all : (s : SpaceType) (i k : ℕ) → length s.factors ≤ k → drop k (factor_actions s i) ≡ []
+actions_all s i k all = drop_all k (factor_actions s i) (omega (arith, length-map s.factors (base_action s.cartan i)))
 
 -- phi, eps and the operators on the factors from the place k on
 abbrev pub phi_after : SpaceType → ℕ → ℕ → List ℕ → ℕ
-phi_after s i k w = word_phi (drop k (actions s i)) (drop k w)
+phi_after s i k w = word_phi (drop k (factor_actions s i)) (drop k w)
 
 abbrev pub eps_after : SpaceType → ℕ → ℕ → List ℕ → ℕ
-eps_after s i k w = word_eps (drop k (actions s i)) (drop k w)
+eps_after s i k w = word_eps (drop k (factor_actions s i)) (drop k w)
 
 abbrev pub lower_after : SpaceType → ℕ → ℕ → List ℕ → Option (List ℕ)
-lower_after s i k w = option_map (λ z. take k w ++ z) (word_lower (drop k (actions s i)) (drop k w))
+lower_after s i k w = option_map (λ z. take k w ++ z) (word_lower (drop k (factor_actions s i)) (drop k w))
 
 abbrev pub raise_after : SpaceType → ℕ → ℕ → List ℕ → Option (List ℕ)
-raise_after s i k w = option_map (λ z. take k w ++ z) (word_raise (drop k (actions s i)) (drop k w))
+raise_after s i k w = option_map (λ z. take k w ++ z) (word_raise (drop k (factor_actions s i)) (drop k w))
 
 pub phi_at_end : (s : SpaceType) (i k : ℕ) (w : List ℕ) → length s.factors ≤ k → phi_after s i k w ≡ 0
 phi_at_end s i k w all = rw (actions_all s i k all) refl
@@ -107,7 +107,7 @@ pub lower_later :
 lower_later s i k w h lt more =
     let within : k < length w = omega (arith, length_word s w h) in
     let test : nat_le (phi_after s i (k + 1) w) ((action_at s i k).eps (get_or w k 0)) ≡ false = not_le_test _ _ more in
-    rw (actions_more s i k lt, drop_more w k 0 within) (rw test (changed_after w k (word_lower (drop (k + 1) (actions s i)) (drop (k + 1) w)) within))
+    rw (actions_more s i k lt, drop_more w k 0 within) (rw test (changed_after w k (word_lower (drop (k + 1) (factor_actions s i)) (drop (k + 1) w)) within))
 
 pub raise_here :
     (s : SpaceType) (i k : ℕ) (w : List ℕ) → IsWord s w → k < length s.factors →
@@ -124,7 +124,7 @@ pub raise_later :
 raise_later s i k w h lt more =
     let within : k < length w = omega (arith, length_word s w h) in
     let test : nat_lt (phi_after s i (k + 1) w) ((action_at s i k).eps (get_or w k 0)) ≡ false = not_lt_test _ _ more in
-    rw (actions_more s i k lt, drop_more w k 0 within) (rw test (changed_after w k (word_raise (drop (k + 1) (actions s i)) (drop (k + 1) w)) within))
+    rw (actions_more s i k lt, drop_more w k 0 within) (rw test (changed_after w k (word_raise (drop (k + 1) (factor_actions s i)) (drop (k + 1) w)) within))
 
 -- what is read at the place k: the digit there, its eps, and phi of the factors behind it
 pub record IsAt (s : SpaceType) (i k : ℕ) (w : List ℕ) (d phi eps : ℕ) : Type 0 where

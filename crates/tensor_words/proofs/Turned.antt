@@ -9,7 +9,7 @@ use Rattle.crystal_cartan.specs.Crystals.{Action}
 use Rattle.tensor_words.specs.declared.spaces.Factor.{Factor}
 use Rattle.tensor_words.specs.declared.spaces.Order.{Order}
 use Rattle.tensor_words.specs.declared.spaces.Order.TheVariants.{Standard, Kashiwara}
-use Rattle.tensor_words.specs.TensorRule.{word_phi, word_eps, word_lower, word_raise, word_action, kashiwara_phi, kashiwara_eps, kashiwara_lower, kashiwara_raise, kashiwara_action, action_in, turned, as_standard, actions, action}
+use Rattle.tensor_words.specs.TensorRule.{word_phi, word_eps, word_lower, word_raise, word_action, kashiwara_phi, kashiwara_eps, kashiwara_lower, kashiwara_raise, kashiwara_action, action_in, turned, as_standard, factor_actions, action}
 use Rattle.tensor_words.specs.Spaces.{SpaceType, base_action}
 use Rattle.tensor_words.proofs.WordLaws.{IsSteady, AreSteady, word_steady}
 
@@ -97,7 +97,7 @@ near s i f = as_standard s.order (base_action s.cartan i f)
 
 pub near_rule : (s : SpaceType) (i : ℕ) (w : List ℕ) → IsSame (as_standard s.order (action s i)) (word_action (map (near s i) s.factors)) w
 unfolding action
-near_rule s i w = rw (map-map (as_standard s.order) (base_action s.cartan i) s.factors) at (standard_rule s.order (actions s i) w)
+near_rule s i w = rw (map-map (as_standard s.order) (base_action s.cartan i) s.factors) at (standard_rule s.order (factor_actions s i) w)
 
 kashiwara_steady : {E : Type 0} (acts : List (Action E)) (w : List E) → AreSteady acts w → IsSteady (kashiwara_action acts) w
 kashiwara_steady {E} acts w steady =

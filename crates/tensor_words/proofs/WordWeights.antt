@@ -15,7 +15,7 @@ use Rattle.tensor_words.specs.declared.spaces.Order.{Order}
 use Rattle.tensor_words.specs.declared.spaces.Order.TheVariants.{Standard, Kashiwara}
 use Rattle.tensor_words.specs.Spaces.{SpaceType, HasFactors, has_factor, base_size, base_action, base_weight, weight_along, word_weight}
 use Rattle.tensor_words.specs.Codes.{AreDigits, IsWord}
-use Rattle.tensor_words.specs.TensorRule.{actions, action_in, action}
+use Rattle.tensor_words.specs.TensorRule.{factor_actions, action_in, action}
 use Rattle.tensor_words.proofs.BaseLaws.{IsLawfulDigit, digit_laws}
 use Rattle.tensor_words.proofs.KeptWords.{first_digit_laws, other_factors}
 use Rattle.tensor_words.proofs.FactorSteps.{IsFactorStep, lowering, lowered_step}
@@ -186,7 +186,7 @@ pub seminormal_word : (s : SpaceType) (i : ℕ) (w : List ℕ) → HasFactors s 
     → IsSeminormal s.cartan i (action s i) (word_weight s) w
 unfolding action word_weight
 seminormal_word s i w factors index digits =
-    let steady = action_steady s.order (actions s i) w (along_steady s.cartan i factors.cartan index s.factors w factors.had digits) in
+    let steady = action_steady s.order (factor_actions s i) w (along_steady s.cartan i factors.cartan index s.factors w factors.had digits) in
     record {
       raised_back = steady.raised_back;
       lowered_back = steady.lowered_back;
@@ -195,5 +195,5 @@ seminormal_word s i w factors index digits =
       lower_counts = steady.lower_counts;
       raise_counts = steady.raise_counts;
       balanced = along_balanced s.cartan i factors.cartan index s.order s.factors w factors.had digits;
-      weight_falls = λ v h. along_falls s.cartan i factors.cartan index s.factors w v factors.had digits (lowered_step s.order (actions s i) w v h);
+      weight_falls = λ v h. along_falls s.cartan i factors.cartan index s.factors w v factors.had digits (lowered_step s.order (factor_actions s i) w v h);
     }

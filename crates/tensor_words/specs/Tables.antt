@@ -28,9 +28,9 @@ pub record AreValues (s : SpaceType) (values : List ℕ) : Type 0 where
   pub each : (k : ℕ) → k < length s.factors → slice_index values k ≡ place_value s k
 
 -- a shift by so many bits divides by the value
-abbrev pub IsShift : ℕ → Option ℕ → Type 0
-IsShift value shift = IfSome shift (λ t. (t < 64) × (value ≡ 2 ^ t))
+abbrev pub IsBitShift : ℕ → Option ℕ → Type 0
+IsBitShift value shift = IfSome shift (λ t. (t < 64) × (value ≡ 2 ^ t))
 
-pub record AreShifts (values : List ℕ) (shifts : List (Option ℕ)) : Type 0 where
+pub record AreBitShifts (values : List ℕ) (shifts : List (Option ℕ)) : Type 0 where
   pub count : length shifts ≡ 40
-  pub each : (k : ℕ) → k < 40 → IsShift (slice_index values k) (slice_index_or shifts k None)
+  pub each : (k : ℕ) → k < 40 → IsBitShift (slice_index values k) (slice_index_or shifts k None)

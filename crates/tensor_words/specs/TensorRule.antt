@@ -93,8 +93,8 @@ as_standard Standard act = act
 as_standard Kashiwara act = turned act
 
 -- how the index i acts on each factor of a space, and on its words
-abbrev pub actions : SpaceType → ℕ → List (Action ℕ)
-actions s i = map (base_action s.cartan i) s.factors
+abbrev pub factor_actions : SpaceType → ℕ → List (Action ℕ)
+factor_actions s i = map (base_action s.cartan i) s.factors
 
 unfoldable pub action : SpaceType → ℕ → Action (List ℕ)
-action s i = action_in s.order (actions s i)
+action s i = action_in s.order (factor_actions s i)

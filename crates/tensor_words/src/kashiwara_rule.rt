@@ -3,7 +3,7 @@ ghost use Rattle.std.specs.Prelude.{◌≡◌, ℕ, ◌+◌, ◌-◌, ◌*◌, �
 ghost use Rattle.std.specs.Option.{option_map};
 ghost use Rattle.crystal_cartan.specs.Types.{HasIndex};
 ghost use Rattle.tensor_words.specs.Codes.{IsWord};
-ghost use Rattle.tensor_words.specs.TensorRule.{actions, kashiwara_phi, kashiwara_eps, kashiwara_lower, kashiwara_raise};
+ghost use Rattle.tensor_words.specs.TensorRule.{factor_actions, kashiwara_phi, kashiwara_eps, kashiwara_lower, kashiwara_raise};
 
 use crate::spaces::Space;
 use crate::words::Word;
@@ -14,7 +14,7 @@ impl Space {
         requires word { IsWord self.now word.now }
         requires index { HasIndex self.now.cartan i }
         requires place { place ≤ length self.now.factors }
-        ensures value { result ≡ kashiwara_eps (drop place (actions self.now i)) (drop place word.now) }
+        ensures value { result ≡ kashiwara_eps (drop place (factor_actions self.now i)) (drop place word.now) }
         ensures small { result ≤ 2 * (length self.now.factors - place) }
     {
         if place == self.count() {
@@ -30,7 +30,7 @@ impl Space {
         requires word { IsWord self.now word.now }
         requires index { HasIndex self.now.cartan i }
         requires place { place ≤ length self.now.factors }
-        ensures value { result ≡ kashiwara_phi (drop place (actions self.now i)) (drop place word.now) }
+        ensures value { result ≡ kashiwara_phi (drop place (factor_actions self.now i)) (drop place word.now) }
         ensures small { result ≤ 2 * (length self.now.factors - place) }
     {
         if place == self.count() {
@@ -48,7 +48,7 @@ impl Space {
         requires word { IsWord self.now word.now }
         requires index { HasIndex self.now.cartan i }
         requires place { place ≤ length self.now.factors }
-        ensures value { result ≡ option_map (λ z. take place word.now ++ z) (kashiwara_lower (drop place (actions self.now i)) (drop place word.now)) }
+        ensures value { result ≡ option_map (λ z. take place word.now ++ z) (kashiwara_lower (drop place (factor_actions self.now i)) (drop place word.now)) }
         ensures word { IfSome result (IsWord self.now) }
     {
         if place == self.count() {
@@ -67,7 +67,7 @@ impl Space {
         requires word { IsWord self.now word.now }
         requires index { HasIndex self.now.cartan i }
         requires place { place ≤ length self.now.factors }
-        ensures value { result ≡ option_map (λ z. take place word.now ++ z) (kashiwara_raise (drop place (actions self.now i)) (drop place word.now)) }
+        ensures value { result ≡ option_map (λ z. take place word.now ++ z) (kashiwara_raise (drop place (factor_actions self.now i)) (drop place word.now)) }
         ensures word { IfSome result (IsWord self.now) }
     {
         if place == self.count() {

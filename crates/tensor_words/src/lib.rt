@@ -33,8 +33,8 @@ pub use laws::{
     operators_keep_words, product_rule, walks_agree,
 };
 pub use reach::next_code;
-pub use spaces::{Factor, Order, Space, SpaceFault};
+pub use spaces::{Factor, MOST_WORDS, Order, Space, SpaceFault};
 pub use steps::Steps;
 pub use tables::Row;
-pub use words::Word;
+pub use words::{Word, word_with};
 pub use worlds::{Codes, MOST_CELLS, World, WorldFault};

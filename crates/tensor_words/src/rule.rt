@@ -4,7 +4,7 @@ ghost use Rattle.std.specs.Option.{option_map};
 ghost use Rattle.crystal_cartan.specs.Types.{HasIndex};
 ghost use Rattle.tensor_words.specs.Spaces.{size_at};
 ghost use Rattle.tensor_words.specs.Codes.{IsWord};
-ghost use Rattle.tensor_words.specs.TensorRule.{action, actions, word_phi, word_eps, word_lower, word_raise};
+ghost use Rattle.tensor_words.specs.TensorRule.{action, factor_actions, word_phi, word_eps, word_lower, word_raise};
 
 use crate::spaces::{Order, Space};
 use crate::words::Word;
@@ -85,7 +85,7 @@ impl Space {
         requires word { IsWord self.now word.now }
         requires index { HasIndex self.now.cartan i }
         requires place { place ≤ length self.now.factors }
-        ensures value { result ≡ word_phi (drop place (actions self.now i)) (drop place word.now) }
+        ensures value { result ≡ word_phi (drop place (factor_actions self.now i)) (drop place word.now) }
         ensures small { result ≤ 2 * (length self.now.factors - place) }
     {
         if place == self.count() {
@@ -101,7 +101,7 @@ impl Space {
         requires word { IsWord self.now word.now }
         requires index { HasIndex self.now.cartan i }
         requires place { place ≤ length self.now.factors }
-        ensures value { result ≡ word_eps (drop place (actions self.now i)) (drop place word.now) }
+        ensures value { result ≡ word_eps (drop place (factor_actions self.now i)) (drop place word.now) }
         ensures small { result ≤ 2 * (length self.now.factors - place) }
     {
         if place == self.count() {
@@ -119,7 +119,7 @@ impl Space {
         requires word { IsWord self.now word.now }
         requires index { HasIndex self.now.cartan i }
         requires place { place ≤ length self.now.factors }
-        ensures value { result ≡ option_map (λ z. take place word.now ++ z) (word_lower (drop place (actions self.now i)) (drop place word.now)) }
+        ensures value { result ≡ option_map (λ z. take place word.now ++ z) (word_lower (drop place (factor_actions self.now i)) (drop place word.now)) }
         ensures word { IfSome result (IsWord self.now) }
     {
         if place == self.count() {
@@ -138,7 +138,7 @@ impl Space {
         requires word { IsWord self.now word.now }
         requires index { HasIndex self.now.cartan i }
         requires place { place ≤ length self.now.factors }
-        ensures value { result ≡ option_map (λ z. take place word.now ++ z) (word_raise (drop place (actions self.now i)) (drop place word.now)) }
+        ensures value { result ≡ option_map (λ z. take place word.now ++ z) (word_raise (drop place (factor_actions self.now i)) (drop place word.now)) }
         ensures word { IfSome result (IsWord self.now) }
     {
         if place == self.count() {

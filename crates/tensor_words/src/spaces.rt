@@ -13,7 +13,7 @@ use std::marker::Model;
 const MOST_FACTORS: usize = 40;
 
 /// The most words of a space.
-const MOST_WORDS: u64 = 1 << 63;
+pub const MOST_WORDS: u64 = 1 << 63;
 
 /// One factor of a tensor product: the vector crystal, the spin crystal of type B, or one of the two of type D.
 #[derive(Clone, Copy, Debug, PartialEq, Eq)]

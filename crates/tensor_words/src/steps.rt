@@ -4,7 +4,7 @@ ghost use Rattle.crystal_cartan.specs.Weights.{IsWeight, IsSmall};
 ghost use Rattle.tensor_words.specs.Spaces.{IsSpace, size, size_at, word_weight};
 ghost use Rattle.tensor_words.specs.Codes.{IsWord, code_of, word_of};
 ghost use Rattle.tensor_words.specs.Steps.{IsRow};
-ghost use Rattle.tensor_words.specs.Tables.{IsShift};
+ghost use Rattle.tensor_words.specs.Tables.{IsBitShift};
 
 use crate::spaces::Space;
 use crate::tables::{Row, rows_of, shifts_of, values_of, widest};
@@ -27,13 +27,13 @@ pub struct Steps {
 
 impl Model for Steps {
     ghost use Rattle.tensor_words.specs.Spaces.{SpaceType};
-    ghost use Rattle.tensor_words.specs.Tables.{AreRows, AreValues, AreShifts};
+    ghost use Rattle.tensor_words.specs.Tables.{AreRows, AreValues, AreBitShifts};
 
     ghost Value = { SpaceType };
 
     ghost view = { λ s. s.space };
 
-    ghost invariant = { λ s. AreRows s.space s.width s.rows.items × AreValues s.space s.values × AreShifts s.values s.shifts };
+    ghost invariant = { λ s. AreRows s.space s.width s.rows.items × AreValues s.space s.values × AreBitShifts s.values s.shifts };
 }
 
 impl Steps {
@@ -131,7 +131,7 @@ impl Steps {
 /// How often the value goes into the number.
 fn quotient(number: u64, value: u64, shift: Option<u8>) -> u64
     requires some { 0 < value }
-    requires shift { IsShift value shift }
+    requires shift { IsBitShift value shift }
     ensures { result ≡ number / value }
 {
     match shift {

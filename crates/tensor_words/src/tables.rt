@@ -2,7 +2,7 @@
 ghost use Rattle.std.specs.Prelude.{◌≡◌, ℕ, ◌*◌, ◌≤◌, ◌<◌, length, IfOk, IfSome};
 ghost use Rattle.tensor_words.specs.Spaces.{size_at};
 ghost use Rattle.tensor_words.specs.Steps.{IsRow};
-ghost use Rattle.tensor_words.specs.Tables.{IsRowAt, AreRows, AreValues, IsShift, AreShifts};
+ghost use Rattle.tensor_words.specs.Tables.{IsRowAt, AreRows, AreValues, IsBitShift, AreBitShifts};
 
 use crate::spaces::Space;
 use crystal_cartan::Weight;
@@ -125,7 +125,7 @@ pub(crate) fn values_of(space: &Space) -> [u64; 40]
 
 /// The shifts that divide by the values, where they are powers of 2.
 pub(crate) fn shifts_of(values: &[u64; 40]) -> [Option<u8>; 40]
-    ensures { AreShifts values.now result }
+    ensures { AreBitShifts values.now result }
 {
     let mut shifts = [None; 40];
     'places: for place in 0..40 {
@@ -136,7 +136,7 @@ pub(crate) fn shifts_of(values: &[u64; 40]) -> [Option<u8>; 40]
 
 /// The shift that divides by the value, if it is a power of 2.
 fn shift_of(value: u64) -> Option<u8>
-    ensures { IsShift value result }
+    ensures { IsBitShift value result }
 {
     let shift = value.trailing_zeros().min(63);
     if 1u64 << shift == value {

@@ -123,3 +123,15 @@ impl Space {
         Some(word)
     }
 }
+
+/// The word of the space with this code.
+pub fn word_with(space: &Space, code: u64) -> Word
+    requires { code < size space.now }
+    ensures value { result ≡ word_of space.now code }
+    ensures word { IsWord space.now result }
+{
+    match space.word_of(code) {
+        Some(word) => word,
+        None => unreachable!(),
+    }
+}

@@ -7,7 +7,7 @@ use Rattle.std.proofs.lemmas.Bool.{eqb-true}
 use Rattle.std.proofs.lemmas.Int.{ints}
 use Rattle.std.proofs.lemmas.List.Elements.{All-map}
 use Rattle.crystal_cartan.specs.Types.{CartanType, IsCartan, HasIndex, coordinates}
-use Rattle.crystal_cartan.specs.Weights.{zero_weight, difference_of, root, twice_pairing}
+use Rattle.crystal_cartan.specs.Weights.{zero_weight, difference_of, root, twice_pairing, IsWithin}
 use Rattle.crystal_cartan.specs.Crystals.{Action, target, origin}
 use Rattle.crystal_cartan.specs.Seminormal.{IsSeminormal}
 use Rattle.crystal_cartan.specs.declared.types.Kind.{Kind}
@@ -124,19 +124,15 @@ steps-none second None = (λ _. refl, λ _. refl)
 steps-none true (Some y) = (λ h. cc, λ h. absurd (omega arith))
 steps-none false (Some y) = (λ h. cc, λ h. absurd (omega arith))
 
--- a doubled coordinate of the weight of a letter
-abbrev IsUnitCoordinate : ℤ → Type 0
-IsUnitCoordinate c = (negsuc 1 ≤ℤ c) × (c ≤ℤ pos 2)
-
-unit_coordinate : (plus minus : Bool) → IsUnitCoordinate (if plus then pos 2 else if minus then negsuc 1 else pos 0)
+unit_coordinate : (plus minus : Bool) → IsWithin 2 (if plus then pos 2 else if minus then negsuc 1 else pos 0)
 unit_coordinate true minus = (omega (arith, ints), omega (arith, ints))
 unit_coordinate false true = (omega (arith, ints), omega (arith, ints))
 unit_coordinate false false = (omega (arith, ints), omega (arith, ints))
 
-pub weight-small : (t : CartanType) (x : ℤ) → All IsUnitCoordinate (letter_weight t x)
+pub weight-small : (t : CartanType) (x : ℤ) → All (IsWithin 2) (letter_weight t x)
 unfolding letter_weight
 weight-small t x =
-    All-map IsUnitCoordinate (λ (j : ℕ). if int_eq x (pos j) then pos 2 else if int_eq x (barred j) then negsuc 1 else pos 0) (range_with_len 1 (coordinates t))
+    All-map (IsWithin 2) (λ (j : ℕ). if int_eq x (pos j) then pos 2 else if int_eq x (barred j) then negsuc 1 else pos 0) (range_with_len 1 (coordinates t))
     (λ k d low. unit_coordinate (int_eq x (pos (slice_index_or (range_with_len 1 (coordinates t)) k d))) (int_eq x (barred (slice_index_or (range_with_len 1 (coordinates t)) k d))))
 
 phi_rule : (t : CartanType) (i : ℕ) (x : ℤ) → IsCartan t → HasIndex t i → IsLetter t x → (letter_action t i).phi x ≡ phi_of t.kind t.rank i x

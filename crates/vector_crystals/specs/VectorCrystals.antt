@@ -4,7 +4,7 @@ use Rattle.std.specs.List.{range_with_len, flat_map}
 use Rattle.std.specs.Ordering.{int_eq}
 use Rattle.crystal_cartan.specs.Types.{CartanType, coordinates}
 use Rattle.crystal_cartan.specs.Weights.{weight_from}
-use Rattle.crystal_cartan.specs.Crystals.{Edge, edge, Action, action, carried}
+use Rattle.crystal_cartan.specs.Crystals.{Edge, edge, Action, edge_action, carried}
 use Rattle.crystal_cartan.specs.declared.types.Kind.{Kind}
 use Rattle.crystal_cartan.specs.declared.types.Kind.TheVariants.{A, B, C, D}
 use Rattle.vector_crystals.specs.Letters.{barred, letter_at, letter_digit}
@@ -40,7 +40,7 @@ vector_edges t = vector_edges_of t.kind t.rank
 
 -- how the index i acts on letters
 unfoldable pub letter_action : CartanType → ℕ → Action ℤ
-letter_action t i = action int_eq (vector_edges t) i
+letter_action t i = edge_action int_eq (vector_edges t) i
 
 -- the same on their digits
 unfoldable pub digit_action : CartanType → ℕ → Action ℕ

@@ -1,7 +1,7 @@
 //! Letters and their digits.
-ghost use Rattle.std.specs.Prelude.{◌≡◌, ℕ, ◌≤◌, ◌<◌, IsTrue, ◌↔◌, IfSome, MatchOption, All, pos, negsuc, ◌≤ℤ◌};
+ghost use Rattle.std.specs.Prelude.{◌≡◌, ℕ, ◌≤◌, ◌<◌, IsTrue, ◌↔◌, IfSome, MatchOption, All};
 ghost use Rattle.crystal_cartan.specs.Types.{CartanType, IsCartan, HasIndex};
-ghost use Rattle.crystal_cartan.specs.Weights.{IsWeight};
+ghost use Rattle.crystal_cartan.specs.Weights.{IsWeight, IsWithin};
 ghost use Rattle.vector_crystals.specs.VectorCrystals.{letter_weight};
 ghost use Rattle.vector_crystals.specs.Letters.{IsLetter, letter_count, letter_at, letter_digit};
 
@@ -92,7 +92,7 @@ pub fn weight(cartan: Cartan, x: Letter) -> Weight
     requires { IsLetter cartan x.0 }
     ensures value { result ≡ letter_weight cartan x.0 }
     ensures size { IsWeight cartan result }
-    ensures small { All (λ c. (negsuc 1 ≤ℤ c) × (c ≤ℤ pos 2)) result }
+    ensures small { All (IsWithin 2) result }
 {
     let place = x.0.unsigned_abs();
     let unbarred = cartan.size();

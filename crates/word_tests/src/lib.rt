@@ -1,9 +1,9 @@
 //! Worked values of the crates from letters to readings, and streams in memory.
 //!
 //! Tests alone, which promise nothing: the check of a crate's tests proves the crate a second time, so they stand
-//! behind the crates that they try. vector_crystals: `letters`; text_pieces: `pieces`; signature_rule: `places`,
-//! `signatures`; tableau_reading: `readings`; spin_crystals: `spins`; crystal_streams: `streams`; tensor_words:
-//! `tensors`; crystal_cartan: `types`.
+//! behind the crates that they try. The modules, in an order to read them in: `types` of crystal_cartan; `letters` of
+//! vector_crystals; `spins` of spin_crystals; `tensors` of tensor_words; `places`, `signatures` of signature_rule;
+//! `readings` of tableau_reading; `pieces` of text_pieces; `streams` of crystal_streams.
 #![tactic(auto)]
 
 #[cfg(test)]

@@ -1,7 +1,7 @@
 //! Growers and sessions run beside each other.
 
 use super::{ROOM, job, strings};
-use crate::top::run;
+use crate::running::run;
 use crystal_streams::{Gate, MemorySink, MemorySource};
 use std::alloc::Global;
 use std::sync::atomic::{AtomicU64, Ordering};

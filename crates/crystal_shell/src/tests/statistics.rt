@@ -2,7 +2,7 @@
 ghost use Rattle.std.specs.Prelude.{◌≡◌, [], IfOk};
 
 use super::{ROOM, job, strings};
-use crate::top::run;
+use crate::running::run;
 use crystal_characters::{Item, Statistic};
 use crystal_streams::{MemorySink, MemorySource, NoMemory, OpenGate};
 use std::alloc::{AllocError, Global};

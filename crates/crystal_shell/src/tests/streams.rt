@@ -2,7 +2,7 @@
 
 use super::statistics::{Counts, stubborn_status};
 use super::{A2, ROOM, strings};
-use crate::top::run;
+use crate::running::run;
 use crystal_streams::{MemorySink, MemorySource, OpenGate};
 use std::alloc::Global;
 use std::test::Fail;
@@ -34,6 +34,39 @@ fn cut<T: Threads + Sync>(
         &OpenGate,
     );
     Ok((outcome.status, sink.bytes().to_vec(alloc)?))
+}
+
+/// Whether such a run ends with this status and this text.
+fn ends_with<T: Threads + Sync>(
+    rt: &T,
+    alloc: Global,
+    bytes: usize,
+    read: u64,
+    write: u64,
+    status: u8,
+    text: &str,
+) -> Result<bool, Fail> {
+    let (ended, output) = cut(rt, alloc, bytes, read, write)?;
+    Ok(ended == status && output.as_slice() == text.as_bytes())
+}
+
+/// Whether a run whose write of this number fails ends with 5, and has written so many bytes of the text.
+fn fails_behind<T: Threads + Sync>(
+    rt: &T,
+    alloc: Global,
+    number: u64,
+    bytes: usize,
+) -> Result<bool, Fail> {
+    let (ended, output) = cut(rt, alloc, 41, NEVER, number)?;
+    Ok(ended == 5 && output.len() == bytes && A2.as_bytes().starts_with(output.as_slice()))
+}
+
+/// Whether a run ends with 6 and without a byte where a statistic wants memory at its third item, and drops both
+/// statistics once.
+fn wants_memory<T: Threads + Sync>(rt: &T, alloc: Global) -> Result<bool, Fail> {
+    let (counted, stubborn) = (Counts::new(alloc)?, Counts::new(alloc)?);
+    let (ended, output) = stubborn_status(rt, alloc, JOB, &counted, &stubborn)?;
+    Ok(ended == 6 && output.is_empty() && counted.get().1 == 1 && stubborn.get() == (2, 1))
 }
 
 /// No read and no write has this number.
@@ -70,33 +103,20 @@ fn streams(rt: HostRuntime) -> Result<(), Fail> {
         (41, 41, 0, A2),
     ] {
         for bytes in from..=to {
-            let (ended, output) = cut(&rt, alloc, bytes, NEVER, NEVER)?;
-            assert_eq!(rt; ended, status);
-            assert_eq!(rt; output.as_slice(), text.as_bytes());
+            assert!(rt; ends_with(&rt, alloc, bytes, NEVER, NEVER, status, text)?);
         }
     }
     // The honest run reads seven times: six times some bytes, and once none.
     for number in 1..=7 {
-        let (ended, output) = cut(&rt, alloc, 41, number, NEVER)?;
-        assert_eq!(rt; ended, 4);
-        assert_eq!(rt; output.len(), 0);
+        assert!(rt; ends_with(&rt, alloc, 41, number, NEVER, 4, "")?);
     }
     // It writes 14 times, and each write but the last takes 16 bytes.
     let mut taken = 0_usize;
     for number in 1..=14 {
-        let (ended, output) = cut(&rt, alloc, 41, NEVER, number)?;
-        assert_eq!(rt; ended, 5);
-        assert_eq!(rt; output.len(), taken);
-        assert!(rt; A2.as_bytes().starts_with(output.as_slice()));
+        assert!(rt; fails_behind(&rt, alloc, number, taken)?);
         taken = taken.wrapping_add(16);
     }
-    let (ended, _) = cut(&rt, alloc, 41, 8, 15)?;
-    assert_eq!(rt; ended, 0);
-    // A statistic that wants memory at its third item.
-    let (counted, stubborn) = (Counts::new(alloc)?, Counts::new(alloc)?);
-    let (ended, output) = stubborn_status(&rt, alloc, JOB, &counted, &stubborn)?;
-    assert_eq!(rt; ended, 6);
-    assert_eq!(rt; output.len(), 0);
-    assert!(rt; counted.get().1 == 1 && stubborn.get() == (2, 1));
+    assert!(rt; ends_with(&rt, alloc, 41, 8, 15, 0, A2)?);
+    assert!(rt; wants_memory(&rt, alloc)?);
     Ok(())
 }

@@ -1,4 +1,4 @@
-//! Worked lists, and counts against the hook content formula.
+//! Faults, and counts against the hook content formula. Worked lists stand as rows under tests/.
 use crystal_cartan::{Cartan, Kind};
 use std::alloc::Global;
 use tableau_census::{CensusFault, census};
@@ -17,17 +17,6 @@ fn listed(
     Some(census(alloc, &shape.ordered(Order::Standard), limit))
 }
 
-/// Whether the census in type A is the list of these codes, and of no fewer.
-fn is_census(alloc: Global, rank: u8, rows: &[u32], codes: &[u64]) -> bool {
-    let Ok(count) = u32::try_from(codes.len()) else {
-        return false;
-    };
-    match listed(alloc, Kind::A, rank, rows, count) {
-        Some(Ok(list)) => list.as_slice() == codes,
-        _ => false,
-    }
-}
-
 /// Why there is no census.
 fn fault(alloc: Global, kind: Kind, rank: u8, rows: &[u32], limit: u32) -> Option<CensusFault> {
     match listed(alloc, kind, rank, rows, limit) {
@@ -37,27 +26,18 @@ fn fault(alloc: Global, kind: Kind, rank: u8, rows: &[u32], limit: u32) -> Optio
 }
 
 #[test]
-fn lists(rt: HostRuntime) {
-    let alloc = rt.alloc();
-    // 2 1 1, 2 1 2, 2 1 3, 3 1 1, 3 1 2, 3 1 3, 3 2 2 and 3 2 3
-    assert!(rt; is_census(alloc, 2, &[2, 1], &[9, 10, 11, 18, 19, 20, 22, 23]));
-    // 3 2 1
-    assert!(rt; is_census(alloc, 2, &[1, 1, 1], &[21]));
-    // 1 1, 1 2, 2 2
-    assert!(rt; is_census(alloc, 1, &[2], &[0, 1, 3]));
-}
-
-#[test]
 fn faults(rt: HostRuntime) {
-    let alloc = rt.alloc();
-    let none = Some(CensusFault::NotTypeA);
-    assert_eq!(rt; fault(alloc, Kind::B, 2, &[2, 1], 100), none);
-    assert_eq!(rt; fault(alloc, Kind::C, 3, &[1], 0), none);
-    assert_eq!(rt; fault(alloc, Kind::D, 4, &[1, 1], 100), none);
-    let many = Some(CensusFault::TooMany);
-    assert_eq!(rt; fault(alloc, Kind::A, 2, &[2, 1], 7), many);
-    assert_eq!(rt; fault(alloc, Kind::A, 2, &[2, 1], 8), None);
-    assert_eq!(rt; fault(alloc, Kind::A, 2, &[1, 1, 1], 0), many);
+    let table: [(Kind, u8, &[u32], u32, Option<CensusFault>); 6] = [
+        (Kind::B, 2, &[2, 1], 100, Some(CensusFault::NotTypeA)),
+        (Kind::C, 3, &[1], 0, Some(CensusFault::NotTypeA)),
+        (Kind::D, 4, &[1, 1], 100, Some(CensusFault::NotTypeA)),
+        (Kind::A, 2, &[2, 1], 7, Some(CensusFault::TooMany)),
+        (Kind::A, 2, &[2, 1], 8, None),
+        (Kind::A, 2, &[1, 1, 1], 0, Some(CensusFault::TooMany)),
+    ];
+    for (kind, rank, rows, limit, wanted) in table {
+        assert_eq!(rt; fault(rt.alloc(), kind, rank, rows, limit), wanted);
+    }
 }
 
 /// How many boxes stand beneath the box in this row and column, from 0.
@@ -111,17 +91,21 @@ fn counted(alloc: Global, rank: u8, rows: &[u32]) -> Option<u32> {
 
 #[test]
 fn counts(rt: HostRuntime) {
-    let alloc = rt.alloc();
-    assert_eq!(rt; counted(alloc, 1, &[1]), Some(2));
-    assert_eq!(rt; counted(alloc, 1, &[3, 1]), Some(3));
-    assert_eq!(rt; counted(alloc, 1, &[2, 2]), Some(1));
-    assert_eq!(rt; counted(alloc, 2, &[2, 1]), Some(8));
-    assert_eq!(rt; counted(alloc, 2, &[3, 1]), Some(15));
-    assert_eq!(rt; counted(alloc, 2, &[2, 2]), Some(6));
-    assert_eq!(rt; counted(alloc, 3, &[2, 1, 1]), Some(15));
-    assert_eq!(rt; counted(alloc, 3, &[2, 2]), Some(20));
-    assert_eq!(rt; counted(alloc, 3, &[3, 2, 1]), Some(64));
-    assert_eq!(rt; counted(alloc, 4, &[1, 1, 1]), Some(10));
-    assert_eq!(rt; counted(alloc, 4, &[4, 3, 2, 1]), Some(1024));
-    assert_eq!(rt; counted(alloc, 8, &[2]), Some(45));
+    let table: [(u8, &[u32], u32); 12] = [
+        (1, &[1], 2),
+        (1, &[3, 1], 3),
+        (1, &[2, 2], 1),
+        (2, &[2, 1], 8),
+        (2, &[3, 1], 15),
+        (2, &[2, 2], 6),
+        (3, &[2, 1, 1], 15),
+        (3, &[2, 2], 20),
+        (3, &[3, 2, 1], 64),
+        (4, &[1, 1, 1], 10),
+        (4, &[4, 3, 2, 1], 1024),
+        (8, &[2], 45),
+    ];
+    for (rank, rows, count) in table {
+        assert_eq!(rt; counted(rt.alloc(), rank, rows), Some(count));
+    }
 }

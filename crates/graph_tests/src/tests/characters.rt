@@ -1,5 +1,5 @@
-//! Characters, reflections and reports of small components. The expected values are counted by hand, from the weights
-//! of the representations and their restrictions to the sl_2 of each simple root.
+//! Characters, reflections and reports of small components, counted by hand from the weights of the representations and
+//! their restrictions to the sl_2 of each simple root. More of them stand as rows under tests/.
 ghost use Rattle.std.specs.Prelude.{◌<◌, length};
 ghost use Rattle.crystal_cartan.specs.Types.{HasIndex};
 
@@ -85,16 +85,6 @@ fn has_images(graph: &Finished, i: u8, images: &[u32]) -> bool {
     true
 }
 
-#[test]
-fn reflections_in_a2(rt: HostRuntime) -> Result<(), Fail> {
-    let vector = component(rt.alloc(), Kind::A, 2, &[V], 0).ok_or("the word is reached")?;
-    assert!(rt; has_images(&vector, 1, &[1, 0, 2]));
-    assert!(rt; has_images(&vector, 2, &[0, 2, 1]));
-    let adjoint = adjoint_of_a2(rt.alloc()).ok_or("the word is reached")?;
-    assert!(rt; has_images(&adjoint, 1, &[1, 0, 2, 6, 4, 7, 3, 5]));
-    Ok(())
-}
-
 /// In the vector crystal of type C_2 the letters 1, 2, -2, -1 have the ranks 0 to 3: the reflection at 1 exchanges the
 /// letters 1 and 2, and -2 and -1, that at 2 the letters 2 and -2.
 #[test]
@@ -106,14 +96,12 @@ fn reflections_in_c2(rt: HostRuntime) -> Result<(), Fail> {
 }
 
 /// The three statistics, fed with nothing.
-macro_rules! statistics {
-    ($alloc:expr) => {{
-        let mut all: Vec<Box<dyn Statistic>> = Vec::new($alloc);
-        all.push(Box::new($alloc, CharacterTally::new($alloc))?)?;
-        all.push(Box::new($alloc, StringTally::new($alloc))?)?;
-        all.push(Box::new($alloc, EndTally::new($alloc))?)?;
-        all
-    }};
+fn statistics(alloc: Global) -> Result<Vec<Box<dyn Statistic>>, AllocError> {
+    let mut all: Vec<Box<dyn Statistic>> = Vec::new(alloc);
+    all.push(Box::new(alloc, CharacterTally::new(alloc))?)?;
+    all.push(Box::new(alloc, StringTally::new(alloc))?)?;
+    all.push(Box::new(alloc, EndTally::new(alloc))?)?;
+    Ok(all)
 }
 
 /// The report of a statistic.
@@ -137,61 +125,9 @@ fn have_reports(alloc: Global, all: &[Box<dyn Statistic>], reports: [&str; 3]) -
     true
 }
 
-const A2_ADJOINT: [&str; 3] = [
-    "2 1 0 | 1\n2 0 1 | 1\n1 2 0 | 1\n1 1 1 | 2\n1 0 2 | 1\n0 2 1 | 1\n0 1 2 | 1\n",
-    "1 | 4 | 2\n2 | 4 | 2\n",
-    "6\n",
-];
-
-const B2_ADJOINT: [&str; 3] = [
-    "1 1 | 1\n1 0 | 1\n1 -1 | 1\n0 1 | 1\n0 0 | 2\n0 -1 | 1\n-1 1 | 1\n-1 0 | 1\n-1 -1 | 1\n",
-    "1 | 6 | 2\n2 | 4 | 2\n",
-    "6\n",
-];
-
-const B2_SPIN: [&str; 3] = [
-    "1/2 1/2 | 1\n1/2 -1/2 | 1\n-1/2 1/2 | 1\n-1/2 -1/2 | 1\n",
-    "1 | 3 | 1\n2 | 2 | 1\n",
-    "4\n",
-];
-
-const C2_SECOND: [&str; 3] = [
-    "1 1 | 1\n1 -1 | 1\n0 0 | 1\n-1 1 | 1\n-1 -1 | 1\n",
-    "1 | 3 | 2\n2 | 3 | 1\n",
-    "4\n",
-];
-
-const D4_VECTOR: [&str; 3] = [
-    "1 0 0 0 | 1\n0 1 0 0 | 1\n0 0 1 0 | 1\n0 0 0 1 | 1\n0 0 0 -1 | 1\n0 0 -1 0 | 1\n0 -1 0 0 | 1\n-1 0 0 0 | 1\n",
-    "1 | 6 | 1\n2 | 6 | 1\n3 | 6 | 1\n4 | 6 | 1\n",
-    "8\n",
-];
-
-#[test]
-fn reports(rt: HostRuntime) -> Result<(), Fail> {
-    let table = [
-        (Kind::A, 2, &[V, V, V] as &[Factor], 9, A2_ADJOINT),
-        (Kind::B, 2, &[V, V], 5, B2_ADJOINT),
-        (Kind::B, 2, &[Factor::Spin], 0, B2_SPIN),
-        (Kind::C, 2, &[V, V], 4, C2_SECOND),
-        (Kind::D, 4, &[V], 0, D4_VECTOR),
-    ];
-    for (kind, rank, factors, code, expected) in table {
-        let graph = component(rt.alloc(), kind, rank, factors, code).ok_or("the word is reached")?;
-        let mut all = statistics!(rt.alloc());
-        assert!(rt; feed(&mut all, &graph).is_ok());
-        assert!(rt;
-            have_reports(rt.alloc(), all.as_slice(), expected),
-            "{}",
-            expected[2]
-        );
-    }
-    Ok(())
-}
-
 #[test]
 fn names_and_empty_lists(rt: HostRuntime) -> Result<(), Fail> {
-    let all = statistics!(rt.alloc());
+    let all = statistics(rt.alloc())?;
     assert!(rt; have_reports(rt.alloc(), all.as_slice(), ["", "", "0\n"]));
     let names = ["character", "strings", "ends"];
     assert_eq!(rt; all.len(), 3);
@@ -201,16 +137,24 @@ fn names_and_empty_lists(rt: HostRuntime) -> Result<(), Fail> {
     Ok(())
 }
 
+/// Whether the statistics took the vertices of both graphs, one after the other.
+fn are_fed(all: &mut Vec<Box<dyn Statistic>>, first: &Finished, second: &Finished) -> bool {
+    feed(all, first).is_ok() && feed(all, second).is_ok()
+}
+
+/// What is told of the adjoint of A_2 and a column of two boxes in C_2 together.
+const BOTH: [&str; 3] = [
+    "2 1 0 | 1\n2 0 1 | 1\n1 2 0 | 1\n1 1 1 | 2\n1 1 | 1\n1 0 2 | 1\n1 -1 | 1\n0 2 1 | 1\n0 1 2 | 1\n0 0 | 1\n-1 1 | 1\n-1 -1 | 1\n",
+    "1 | 7 | 2\n2 | 7 | 2\n",
+    "10\n",
+];
+
 #[test]
 fn items_of_two_types(rt: HostRuntime) -> Result<(), Fail> {
     let first = adjoint_of_a2(rt.alloc()).ok_or("the word is reached")?;
     let second = component(rt.alloc(), Kind::C, 2, &[V, V], 4).ok_or("the word is reached")?;
-    let mut all = statistics!(rt.alloc());
-    assert!(rt; feed(&mut all, &first).is_ok());
-    assert!(rt; feed(&mut all, &second).is_ok());
-    let character = "2 1 0 | 1\n2 0 1 | 1\n1 2 0 | 1\n1 1 1 | 2\n1 1 | 1\n1 0 2 | 1\n1 -1 | 1\n\
-        0 2 1 | 1\n0 1 2 | 1\n0 0 | 1\n-1 1 | 1\n-1 -1 | 1\n";
-    let expected = [character, "1 | 7 | 2\n2 | 7 | 2\n", "10\n"];
-    assert!(rt; have_reports(rt.alloc(), all.as_slice(), expected));
+    let mut all = statistics(rt.alloc())?;
+    assert!(rt; are_fed(&mut all, &first, &second));
+    assert!(rt; have_reports(rt.alloc(), all.as_slice(), BOTH));
     Ok(())
 }

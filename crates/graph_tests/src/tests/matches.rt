@@ -1,4 +1,4 @@
-//! Counts by Weyl's dimension formula, and lists of arrows by hand.
+//! Counts by Weyl's dimension formula, and a list of arrows by hand. More of them stand as rows under tests/.
 use crystal_cartan::{Arrow, Cartan, Kind};
 use crystal_match::{MatchFault, Relabel, Verdict, compare};
 use std::alloc::Global;
@@ -57,52 +57,16 @@ fn lowering(index: u8) -> Arrow {
 }
 
 #[test]
-fn words_of_a2(rt: HostRuntime) {
+fn words_of_two_types(rt: HostRuntime) {
     let a2 = made(Kind::A, 2, &[V, V, V]).expect(&rt, "A_2 has vectors");
-    assert_eq!(rt;
-        answer(rt.alloc(), &a2, (9, 3), false, 8),
-        Some(Short::Same(8))
-    );
-    assert_eq!(rt;
-        answer(rt.alloc(), &a2, (9, 23), true, 8),
-        Some(Short::Same(8))
-    );
+    let same = answer(rt.alloc(), &a2, (9, 3), false, 8);
+    let star = answer(rt.alloc(), &a2, (9, 23), true, 8);
+    let seven = answer(rt.alloc(), &a2, (9, 23), true, 7);
+    let none = answer(rt.alloc(), &a2, (9, 3), false, 0);
+    let all = Some(Short::Same(8));
     let many = Some(Short::Fault(MatchFault::TooMany));
-    assert_eq!(rt; answer(rt.alloc(), &a2, (9, 23), true, 7), many);
-    assert_eq!(rt; answer(rt.alloc(), &a2, (9, 3), false, 0), many);
-}
-
-#[test]
-fn words_of_a1(rt: HostRuntime) {
+    assert_eq!(rt; [same, star, seven, none], [all, all, many, many]);
     let a1 = made(Kind::A, 1, &[V, V]).expect(&rt, "A_1 has vectors");
-    let told = Some(Short::Differs(1, lowering(1)));
-    assert_eq!(rt; answer(rt.alloc(), &a1, (0, 2), false, 1), told);
-}
-
-/// The pairs that lists of up to three arrows reach, and the list of four, are from a model that tries all lists.
-#[test]
-fn words_of_a3(rt: HostRuntime) {
-    let a3 = made(Kind::A, 3, &[V, V, V, V]).expect(&rt, "A_3 has vectors");
-    let raising = Arrow {
-        down: false,
-        index: 3,
-    };
-    let told = Some(Short::Differs(4, raising));
-    assert_eq!(rt; answer(rt.alloc(), &a3, (35, 176), false, 18), told);
-    let many = Some(Short::Fault(MatchFault::TooMany));
-    assert_eq!(rt; answer(rt.alloc(), &a3, (35, 176), false, 17), many);
-}
-
-#[test]
-fn stars_of_d(rt: HostRuntime) {
-    let d4 = made(Kind::D, 4, &[Factor::SpinPlus]).expect(&rt, "D_4 has spins");
-    assert_eq!(rt;
-        answer(rt.alloc(), &d4, (0, 7), true, 8),
-        Some(Short::Same(8))
-    );
-    let d5 = made(Kind::D, 5, &[Factor::SpinPlus]).expect(&rt, "D_5 has spins");
-    assert_eq!(rt;
-        answer(rt.alloc(), &d5, (0, 15), true, 16),
-        Some(Short::Same(16))
-    );
+    let told = answer(rt.alloc(), &a1, (0, 2), false, 1);
+    assert_eq!(rt; told, Some(Short::Differs(1, lowering(1))));
 }

@@ -1,4 +1,4 @@
-//! Worked subsets: sizes by Demazure's character formula, and products of small representations.
+//! Worked subsets and a product. Those along reduced words, and other products, stand as rows under tests/.
 ghost use Rattle.std.specs.Prelude.{◌<◌, IsTrue, All};
 ghost use Rattle.crystal_cartan.specs.Types.{HasIndex};
 ghost use Rattle.tensor_words.specs.Codes.{IsWord};
@@ -54,22 +54,6 @@ fn is_subset(alloc: Global, graph: &Finished, rank: u32, indices: &[u8], ranks: 
     }
 }
 
-/// Whether the Demazure subsets over the first vertex along the last 0, 1, 2, .. indices of the word have these sizes.
-fn has_sizes(alloc: Global, graph: &Finished, word: &[u8], sizes: &[usize]) -> bool {
-    if sizes.len() != word.len() + 1 {
-        return false;
-    }
-    for k in 0..sizes.len() {
-        let Some(found) = subset(alloc, graph, 0, &word[word.len() - k..]) else {
-            return false;
-        };
-        if found.len() != sizes[k] {
-            return false;
-        }
-    }
-    true
-}
-
 #[test]
 fn the_last_index_acts_first(rt: HostRuntime) {
     let graph = component(rt.alloc(), Kind::A, 2, &[V], 0).expect(&rt, "three letters");
@@ -79,21 +63,6 @@ fn the_last_index_acts_first(rt: HostRuntime) {
     let graph = component(rt.alloc(), Kind::A, 2, &[V, V, V], 9).expect(&rt, "eight words");
     assert!(rt; is_subset(rt.alloc(), &graph, 3, &[2, 1], &[3, 4, 6, 7]));
     assert!(rt; is_subset(rt.alloc(), &graph, 3, &[1, 2], &[3, 4, 6]));
-}
-
-#[test]
-fn along_reduced_words(rt: HostRuntime) {
-    let alloc = rt.alloc();
-    let graph = component(alloc, Kind::A, 2, &[V, V, V], 9).expect(&rt, "eight words");
-    assert!(rt; has_sizes(alloc, &graph, &[1, 2, 1], &[1, 2, 5, 8]));
-    let graph = component(alloc, Kind::B, 2, &[V], 0).expect(&rt, "five letters");
-    assert!(rt; has_sizes(alloc, &graph, &[2, 1, 2, 1], &[1, 2, 4, 5, 5]));
-    let graph = component(alloc, Kind::B, 2, &[V, V], 5).expect(&rt, "ten words");
-    assert!(rt; has_sizes(alloc, &graph, &[2, 1, 2, 1], &[1, 1, 3, 6, 10]));
-    let graph = component(alloc, Kind::C, 2, &[V], 0).expect(&rt, "four letters");
-    assert!(rt; has_sizes(alloc, &graph, &[2, 1, 2, 1], &[1, 2, 3, 4, 4]));
-    let graph = component(alloc, Kind::D, 3, &[V], 0).expect(&rt, "six letters");
-    assert!(rt; has_sizes(alloc, &graph, &[1, 2, 1, 3, 1, 2], &[1, 1, 2, 3, 3, 5, 6]));
 }
 
 /// The vertices that are tops beside the weight of a word.
@@ -150,51 +119,12 @@ fn are_tops(
     true
 }
 
+/// Pieri: one box is added to the shape 2 1 in each of three rows.
 #[test]
 fn products_with_a_vector(rt: HostRuntime) {
-    let alloc = rt.alloc();
     product_tops_law();
-    // Clebsch and Gordan: 2 by 1 is 3 and 1.
-    let graph = component(alloc, Kind::A, 1, &[V, V], 0).expect(&rt, "three words");
-    let other = space_of(Kind::A, 1, &[V]).expect(&rt, "one factor");
-    assert!(rt; are_tops(alloc, &graph, &other, 0, &[(0, &[6, 0]), (1, &[4, 2])]));
-    // Pieri: one box is added to the shape 2 1 in each of three rows.
-    let graph = component(alloc, Kind::A, 2, &[V, V, V], 9).expect(&rt, "eight words");
+    let graph = component(rt.alloc(), Kind::A, 2, &[V, V, V], 9).expect(&rt, "eight words");
     let other = space_of(Kind::A, 2, &[V]).expect(&rt, "one factor");
-    assert!(rt;
-        are_tops(
-            alloc,
-            &graph,
-            &other,
-            0,
-            &[(0, &[6, 2, 0]), (1, &[4, 4, 0]), (4, &[4, 2, 2])]
-        )
-    );
-    // The square of the vector representation: traceless symmetric, alternating and trivial.
-    let graph = component(alloc, Kind::B, 2, &[V], 0).expect(&rt, "five letters");
-    let other = space_of(Kind::B, 2, &[V]).expect(&rt, "one factor");
-    assert!(rt;
-        are_tops(
-            alloc,
-            &graph,
-            &other,
-            0,
-            &[(0, &[4, 0]), (1, &[2, 2]), (4, &[0, 0])]
-        )
-    );
-    let graph = component(alloc, Kind::C, 2, &[V], 0).expect(&rt, "four letters");
-    let other = space_of(Kind::C, 2, &[V]).expect(&rt, "one factor");
-    assert!(rt;
-        are_tops(
-            alloc,
-            &graph,
-            &other,
-            0,
-            &[(0, &[4, 0]), (1, &[2, 2]), (3, &[0, 0])]
-        )
-    );
-    let graph = component(alloc, Kind::D, 4, &[V], 0).expect(&rt, "eight letters");
-    let other = space_of(Kind::D, 4, &[V]).expect(&rt, "one factor");
-    let tops: [(u32, &[i32]); 3] = [(0, &[4, 0, 0, 0]), (1, &[2, 2, 0, 0]), (7, &[0, 0, 0, 0])];
-    assert!(rt; are_tops(alloc, &graph, &other, 0, &tops));
+    let tops: [(u32, &[i32]); 3] = [(0, &[6, 2, 0]), (1, &[4, 4, 0]), (4, &[4, 2, 2])];
+    assert!(rt; are_tops(rt.alloc(), &graph, &other, 0, &tops));
 }

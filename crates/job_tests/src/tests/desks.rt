@@ -95,16 +95,20 @@ fn words() -> Option<Space> {
 #[test]
 fn lines(rt: HostRuntime) {
     let space = words().expect(&rt, "A_1 has vectors");
-    assert!(rt; is_printed(&space, &Reply::New, "new"));
-    assert!(rt; is_printed(&space, &Reply::Old, "old"));
-    assert!(rt; is_printed(&space, &Reply::There, "there"));
-    assert!(rt; is_printed(&space, &Reply::Absent, "absent"));
-    assert!(rt; is_printed(&space, &Reply::Undrawn, "open"));
-    assert!(rt; is_printed(&space, &Reply::Zero, "zero"));
-    assert!(rt; is_printed(&space, &Reply::Full, "full"));
-    assert!(rt; is_printed(&space, &Reply::Number(40), "40"));
-    assert!(rt; is_printed(&space, &Reply::Done, "done"));
-    assert!(rt; is_printed(&space, &Reply::More, "more"));
+    assert!(rt;
+        is_printed(&space, &Reply::New, "new")
+            && is_printed(&space, &Reply::Old, "old")
+            && is_printed(&space, &Reply::There, "there")
+            && is_printed(&space, &Reply::Absent, "absent")
+            && is_printed(&space, &Reply::Undrawn, "open")
+    );
+    assert!(rt;
+        is_printed(&space, &Reply::Zero, "zero")
+            && is_printed(&space, &Reply::Full, "full")
+            && is_printed(&space, &Reply::Number(40), "40")
+            && is_printed(&space, &Reply::Done, "done")
+            && is_printed(&space, &Reply::More, "more")
+    );
     let word = space.word_of(2).expect(&rt, "there are four words");
     assert!(rt; is_printed(&space, &Reply::Word(2), "2 1"));
     assert!(rt; is_printed(&space, &Reply::Weight(space.weight(&word)), "1 1"));

@@ -1,113 +1,17 @@
-//! Printed answers: short ones, one of more than a page, and writes that fail.
-ghost use Rattle.std.specs.Prelude.{◌<◌, ◌^◌, length, All, IfOk, IfSome, IsTrue};
+//! A printed answer of more than a page, and writes that fail. Short answers stand as rows under tests/.
+ghost use Rattle.std.specs.Prelude.{◌<◌, All, IfOk, IfSome, IsTrue};
 ghost use Rattle.answer_text.specs.Answers.{IsPrintableAnswer};
 
 use answer_text::{Answer, Page, print_answer};
-use canonical_graph::{Finished, grow_plain};
 use crystal_cartan::{Cartan, Kind};
-use crystal_match::{Relabel, Verdict, compare};
-use crystal_streams::{MemorySink, NoMemory};
+use crystal_streams::MemorySink;
 use std::alloc::{AllocError, Global};
 use std::test::Fail;
 use tableau_reading::Shape;
-use tensor_words::{Codes, Factor, Space, World};
-
-const V: Factor = Factor::Vector;
+use tensor_words::Codes;
 
 /// The bytes that the sinks have room for.
 const ROOM: usize = 1 << 20;
-
-/// An empty sink that takes all it is given.
-fn open_sink(alloc: Global) -> Result<MemorySink, NoMemory> {
-    MemorySink::new(alloc, ROOM, Vec::new(alloc), ROOM)
-}
-
-/// The graph that grows from roots in a tensor product of vector crystals.
-fn grown(alloc: Global, kind: Kind, rank: u8, factors: &[Factor], roots: Codes) -> Option<Finished>
-    requires { length roots < 2 ^ 32 }
-{
-    let space = Space::new(Cartan::new(kind, rank).ok()?, factors).ok()?;
-    let world = World::new(space, 8, roots).ok()?;
-    grow_plain(alloc, &world).ok()
-}
-
-/// What a sink holds after an answer was printed, `None` where memory is wanted or a write failed.
-fn printed(alloc: Global, answer: &Answer) -> Option<MemorySink>
-    requires { IsPrintableAnswer answer.now }
-{
-    let mut sink = open_sink(alloc).ok()?;
-    let page = Page::new(alloc).ok()?;
-    print_answer(&mut sink, page, answer).ok()?;
-    Some(sink)
-}
-
-/// The comparison of two words of a space.
-fn compared(
-    alloc: Global,
-    cartan: Cartan,
-    factors: &[Factor],
-    first: u64,
-    second: u64,
-) -> Option<Verdict> {
-    let space = Space::new(cartan, factors).ok()?;
-    let size = space.size();
-    if first < size && second < size {
-        return compare(
-            alloc,
-            &space,
-            first,
-            second,
-            &Relabel::same(space.cartan()),
-            8,
-        )
-        .ok();
-    }
-    None
-}
-
-#[test]
-fn whole_answers(rt: HostRuntime) -> Result<(), Fail> {
-    let alloc = rt.alloc();
-    let (one, two) = (Cartan::new(Kind::A, 1)?, Cartan::new(Kind::A, 2)?);
-    let roots = Codes::of(vec![in alloc; 0, 2]?);
-    let sample = Answer::Sample {
-        number: 7,
-        cartan: one,
-        sessions: 4,
-        commands: 256,
-        graph: grown(alloc, Kind::A, 1, &[V, V], roots),
-    };
-    let same = Answer::Comparison {
-        cartan: two,
-        verdict: compared(alloc, two, &[V, V, V], 9, 3),
-    };
-    let differs = Answer::Comparison {
-        cartan: one,
-        verdict: compared(alloc, one, &[V, V], 0, 2),
-    };
-    let full = Answer::Tableaux {
-        shape: Shape::new(&[1], two)?,
-        codes: None,
-    };
-    for (answer, text) in [
-        (&Answer::WordsRefused { fault: 2 }, "refused words 2\n"),
-        (
-            &Answer::JobRefused { line: 0, fault: 14 },
-            "refused job line 0 fault 14\n",
-        ),
-        (
-            &sample,
-            "sample 7\ncrystal A 1\nsessions 4\ncommands 256\ngraph 4 2\nend\n",
-        ),
-        (&same, "crystal A 2\nsame 8\nend\n"),
-        (&differs, "crystal A 1\ndiffers f1\nend\n"),
-        (&full, "census A 2\nfull\nend\n"),
-    ] {
-        let sink = printed(alloc, answer).expect(&rt, "all is printed");
-        assert_eq!(rt; sink.bytes(), text.as_bytes());
-    }
-    Ok(())
-}
 
 fn are_codes(size: u64, codes: &[u64]) -> bool
     ensures { IsTrue result → All (λ code. code < size) codes.now }

@@ -80,20 +80,27 @@ fn word_at(graph: &Graph, seat: &mut Seat, cell: u32) -> Option<Option<u64>>
 fn one_cell(rt: HostRuntime) -> Result<(), NoMemory> {
     let world = world(rt.alloc(), 1)?.expect(&rt, "a world of one cell");
     let (graph, mut seat) = Graph::new(rt.alloc(), world)?;
-    assert_eq!(rt; tally(&graph, &mut seat), 0);
+    let before = tally(&graph, &mut seat);
+    let first = add_root(&graph, &mut seat, 0);
+    let second = add_root(&graph, &mut seat, 2);
+    let missing = find_code(&graph, &mut seat, 2);
+    let again = add_root(&graph, &mut seat, 0);
+    let found = find_code(&graph, &mut seat, 0);
+    let code = word_at(&graph, &mut seat, 0);
+    let after = tally(&graph, &mut seat);
     assert_eq!(rt;
-        add_root(&graph, &mut seat, 0),
-        Some(Added::New { cell: 0 })
+        [first, second, again],
+        [
+            Some(Added::New { cell: 0 }),
+            Some(Added::Full),
+            Some(Added::Old { cell: 0 })
+        ]
     );
-    assert_eq!(rt; add_root(&graph, &mut seat, 2), Some(Added::Full));
-    assert_eq!(rt; find_code(&graph, &mut seat, 2), Some(None));
     assert_eq!(rt;
-        add_root(&graph, &mut seat, 0),
-        Some(Added::Old { cell: 0 })
+        (missing, found, code),
+        (Some(None), Some(Some(0)), Some(Some(0)))
     );
-    assert_eq!(rt; find_code(&graph, &mut seat, 0), Some(Some(0)));
-    assert_eq!(rt; word_at(&graph, &mut seat, 0), Some(Some(0)));
-    assert_eq!(rt; tally(&graph, &mut seat), 1);
+    assert_eq!(rt; (before, after), (0, 1));
     Ok(())
 }
 
@@ -106,17 +113,19 @@ fn near_or_not(rt: HostRuntime) -> Result<(), NoMemory> {
         panic!(rt; "the word is new");
     };
     let old = Some(Added::Old { cell });
-    assert_eq!(rt; add_root_at(&graph, &mut seat, 2, cell), old);
-    assert_eq!(rt; add_root_at(&graph, &mut seat, 2, cell ^ 1), old);
-    assert_eq!(rt; add_root_at(&graph, &mut seat, 2, 4), old);
-    assert_eq!(rt; add_root_at(&graph, &mut seat, 2, u32::MAX), old);
+    let right = add_root_at(&graph, &mut seat, 2, cell);
+    let wrong = add_root_at(&graph, &mut seat, 2, cell ^ 1);
+    let past = add_root_at(&graph, &mut seat, 2, 4);
+    let far = add_root_at(&graph, &mut seat, 2, u32::MAX);
+    assert_eq!(rt; [right, wrong, past, far], [old; 4]);
     let Some(Added::New { cell: other }) = add_root_at(&graph, &mut seat, 0, cell) else {
         panic!(rt; "the other word is new");
     };
+    let last = add_root_at(&graph, &mut seat, 2, other);
+    let found = find_code(&graph, &mut seat, 0);
+    let debts = tally(&graph, &mut seat);
     assert!(rt; other != cell);
-    assert_eq!(rt; add_root_at(&graph, &mut seat, 2, other), old);
-    assert_eq!(rt; find_code(&graph, &mut seat, 0), Some(Some(other)));
-    assert_eq!(rt; tally(&graph, &mut seat), 2);
+    assert_eq!(rt; (last, found, debts), (old, Some(Some(other)), 2));
     Ok(())
 }
 
@@ -150,6 +159,16 @@ fn add_both<R: Threads + Sync>(rt: &R, graph: &Graph, one: Seat, two: Seat) -> (
     )
 }
 
+/// The cell in which one of the two put the word in, and the other found it.
+fn one_cell_of(one: Option<Added>, two: Option<Added>) -> Option<u32> {
+    match (one?, two?) {
+        (Added::New { cell }, Added::Old { cell: same })
+        | (Added::Old { cell: same }, Added::New { cell })
+            if cell == same => { Some(cell) }
+        _ => None,
+    }
+}
+
 #[test]
 fn two_seats(rt: HostRuntime) -> Result<(), NoMemory> {
     let world = world(rt.alloc(), 4)?.expect(&rt, "a world of four cells");
@@ -160,17 +179,14 @@ fn two_seats(rt: HostRuntime) -> Result<(), NoMemory> {
         (1, 0, 1)
     );
     let (mine, other) = add_both(&rt, &graph, seat, child);
-    let cells = match (mine.answer, other.answer) {
-        (Some(Added::New { cell: one }), Some(Added::Old { cell: two })) => (one, two),
-        (Some(Added::Old { cell: one }), Some(Added::New { cell: two })) => (one, two),
-        _ => panic!(rt; "one of the two is new, and one is old"),
-    };
-    assert_eq!(rt; cells.0, cells.1);
+    let cell = one_cell_of(mine.answer, other.answer);
     let mut seat = mine.seat;
     seat.join(&graph, other.seat);
     seat.meet(&graph);
-    assert_eq!(rt; seat.stake(), 65_536);
-    assert_eq!(rt; find_code(&graph, &mut seat, 2), Some(Some(cells.0)));
-    assert_eq!(rt; tally(&graph, &mut seat), 1);
+    let stake = seat.stake();
+    assert!(rt; cell.is_some());
+    let found = find_code(&graph, &mut seat, 2);
+    let debts = tally(&graph, &mut seat);
+    assert_eq!(rt; (stake, found, debts), (65_536, Some(cell), 1));
     Ok(())
 }

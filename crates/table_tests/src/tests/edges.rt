@@ -131,23 +131,21 @@ fn two_words(rt: HostRuntime) -> Result<(), NoMemory> {
         down: false,
         index: 1,
     };
-    assert_eq!(rt; look_at(&graph, &mut seat, one, lower), Some(Look::Blank));
-    assert_eq!(rt; set_to(&graph, &mut seat, one, lower, None), None);
+    let blank = look_at(&graph, &mut seat, one, lower);
+    let zero = set_to(&graph, &mut seat, one, lower, None);
+    let first = set_to(&graph, &mut seat, one, lower, Some(two));
+    let second = set_to(&graph, &mut seat, one, lower, Some(two));
+    let third = set_to(&graph, &mut seat, one, raise, None);
+    let fourth = set_to(&graph, &mut seat, one, raise, None);
+    let below = look_at(&graph, &mut seat, one, lower);
+    let above = look_at(&graph, &mut seat, one, raise);
+    let other = look_at(&graph, &mut seat, two, raise);
+    assert_eq!(rt; [zero, first, second], [None, Some(true), Some(false)]);
+    assert_eq!(rt; [third, fourth], [Some(true), Some(false)]);
+    assert_eq!(rt; [blank, other], [Some(Look::Blank); 2]);
     assert_eq!(rt;
-        set_to(&graph, &mut seat, one, lower, Some(two)),
-        Some(true)
+        [below, above],
+        [Some(Look::To { cell: two }), Some(Look::Zero)]
     );
-    assert_eq!(rt;
-        set_to(&graph, &mut seat, one, lower, Some(two)),
-        Some(false)
-    );
-    assert_eq!(rt; set_to(&graph, &mut seat, one, raise, None), Some(true));
-    assert_eq!(rt; set_to(&graph, &mut seat, one, raise, None), Some(false));
-    assert_eq!(rt;
-        look_at(&graph, &mut seat, one, lower),
-        Some(Look::To { cell: two })
-    );
-    assert_eq!(rt; look_at(&graph, &mut seat, one, raise), Some(Look::Zero));
-    assert_eq!(rt; look_at(&graph, &mut seat, two, raise), Some(Look::Blank));
     Ok(())
 }

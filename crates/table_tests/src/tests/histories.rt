@@ -78,22 +78,31 @@ fn word(desk: &mut PlainDesk, code: u64) -> Option<u64> {
 fn four_cells(rt: HostRuntime) -> Result<(), NoMemory> {
     let made = desk(rt.alloc(), 4, Vec::from_array(rt.alloc(), [0])?);
     let mut desk = made.ok().flatten().expect(&rt, "memory for four cells");
-    assert_eq!(rt; desk.tally(), 0);
-    assert!(rt; matches!(add(&mut desk, 0), Some(Added::New { .. })));
-    assert_eq!(rt; desk.tally(), 1);
-    assert_eq!(rt; look(&mut desk, 0, F_1), Some(Look::Blank));
+    let before = desk.tally();
+    let first = add(&mut desk, 0);
+    let between = desk.tally();
+    let blank = look(&mut desk, 0, F_1);
     let Some(Draw::To { cell }) = draw(&mut desk, 0, F_1) else {
         panic!(rt; "the arrow leads to a word");
     };
-    assert_eq!(rt; look(&mut desk, 0, F_1), Some(Look::To { cell }));
-    assert_eq!(rt; find(&mut desk, 1), Some(Some(cell)));
-    assert_eq!(rt; word(&mut desk, 1), Some(1));
-    assert_eq!(rt; draw(&mut desk, 0, E_1), Some(Draw::Zero));
-    assert_eq!(rt; find(&mut desk, 3), Some(None));
+    let below = look(&mut desk, 0, F_1);
+    let found = find(&mut desk, 1);
+    let code = word(&mut desk, 1);
+    let above = draw(&mut desk, 0, E_1);
+    let missing = find(&mut desk, 3);
     desk.call_as(1);
-    assert!(rt; matches!(add(&mut desk, 0), Some(Added::Old { .. })));
-    assert_eq!(rt; desk.tally(), 2);
+    let second = add(&mut desk, 0);
+    let after = desk.tally();
     let _front = desk.front();
+    assert!(rt; matches!(first, Some(Added::New { .. })));
+    assert!(rt; matches!(second, Some(Added::Old { .. })));
+    assert_eq!(rt; (before, between, after), (0, 1, 2));
+    assert_eq!(rt;
+        (blank, below),
+        (Some(Look::Blank), Some(Look::To { cell }))
+    );
+    assert_eq!(rt; (found, missing), (Some(Some(cell)), Some(None)));
+    assert_eq!(rt; (code, above), (Some(1), Some(Draw::Zero)));
     Ok(())
 }
 

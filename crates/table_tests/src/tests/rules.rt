@@ -24,25 +24,19 @@ fn world(alloc: Global) -> Result<Option<World>, NoMemory> {
 fn debts_and_seats(rt: HostRuntime) -> Result<(), NoMemory> {
     let world = world(rt.alloc())?.expect(&rt, "a world of two cells");
     let (graph, mut seat) = Graph::new(rt.alloc(), world)?;
-    assert_eq!(rt;
-        (seat.number(), seat.numbers_left(), seat.stake()),
-        (0, (1 << 32) - 1, 65_536)
-    );
+    let own = (seat.number(), seat.numbers_left(), seat.stake());
     owe(&graph, &mut seat);
     release(&graph, &mut seat);
-    assert_eq!(rt; tally(&graph, &mut seat), 0);
+    let before = tally(&graph, &mut seat);
     let mut child = seat.hand(&graph, 5, &[]);
-    assert_eq!(rt;
-        (child.number(), child.numbers_left(), child.stake()),
-        (1, 0, 5)
-    );
-    assert_eq!(rt;
-        (seat.numbers_left(), seat.stake()),
-        ((1 << 32) - 2, 65_531)
-    );
-    assert_eq!(rt; tally(&graph, &mut child), 0);
+    let handed = (child.number(), child.numbers_left(), child.stake());
+    let left = (seat.numbers_left(), seat.stake());
+    let after = tally(&graph, &mut child);
     let _front = child.front();
     seat.join(&graph, child);
-    assert_eq!(rt; (seat.number(), seat.stake()), (0, 65_536));
+    assert_eq!(rt; (own, handed), ((0, (1 << 32) - 1, 65_536), (1, 0, 5)));
+    assert_eq!(rt; (before, after), (0, 0));
+    assert_eq!(rt; (left, seat.stake()), (((1 << 32) - 2, 65_531), 65_536));
+    assert_eq!(rt; seat.number(), 0);
     Ok(())
 }

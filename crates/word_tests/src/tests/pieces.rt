@@ -24,31 +24,30 @@ const TEXTS: [(&str, &str, bool, &str); 5] = [
     ("\n\none", "", true, "\none"),
 ];
 
+/// Whether this stands before the first end of line, and whether there is one, with what stands behind it.
+fn is_cut(text: &str, head: &str, has_more: bool, rest: &str) -> bool {
+    let (line, more) = cut(text.as_bytes(), b'\n');
+    line == head.as_bytes() && more.is_some() == has_more && more.unwrap_or(b"") == rest.as_bytes()
+}
+
+/// Whether a line has so many words, of which these are the first two.
+fn has_words(line: &str, count: usize, word: &str, next: &str) -> bool {
+    let line = line.as_bytes();
+    count_words(line) == count
+        && first_word(line).is_some() == (count > 0)
+        && first(line) == word.as_bytes()
+        && first(behind(line)) == next.as_bytes()
+}
+
 #[test]
 fn lines_are_cut(rt: HostRuntime) {
     for (text, head, has_more, rest) in TEXTS {
-        let (line, more) = cut(text.as_bytes(), b'\n');
-        assert_eq!(rt; line, head.as_bytes(), "before the end of line in {text:?}");
-        assert_eq!(rt; more.is_some(), has_more, "an end of line in {text:?}");
-        assert_eq!(rt;
-            more.unwrap_or(b""),
-            rest.as_bytes(),
-            "behind the end of line in {text:?}"
-        );
+        assert!(rt; is_cut(text, head, has_more, rest), "{text:?}");
     }
-    for (text, count, word, next) in LINES {
-        let line = text.as_bytes();
-        assert_eq!(rt; count_words(line), count, "words of {text:?}");
-        assert_eq!(rt; first_word(line).is_some(), count > 0, "a word in {text:?}");
-        assert_eq!(rt; first(line), word.as_bytes(), "first word of {text:?}");
-        assert_eq!(rt;
-            first(behind(line)),
-            next.as_bytes(),
-            "second word of {text:?}"
-        );
+    for (line, count, word, next) in LINES {
+        assert!(rt; has_words(line, count, word, next), "{line:?}");
     }
-    assert!(rt; are_printed(b" ~#a"));
-    assert!(rt; !are_printed(b"a\tb"));
+    assert!(rt; are_printed(b" ~#a") && !are_printed(b"a\tb"));
 }
 
 #[test]

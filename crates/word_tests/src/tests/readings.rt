@@ -75,9 +75,8 @@ fn put_letter(filling: &mut Filling, row: u8, column: u8, value: i8) -> Option<L
 #[test]
 fn words(rt: HostRuntime) {
     let b2 = space_of(Kind::B, 2, &[S, V]).expect(&rt, "B_2 has spin elements");
-    assert!(rt; is_read(&b2, "+- 0", "+- 0"));
+    assert!(rt; is_read(&b2, "+- 0", "+- 0") && is_read(&b2, "  --  -02 ", "-- -2"));
     assert_eq!(rt; code_read(&b2, "+- 0"), Some(7));
-    assert!(rt; is_read(&b2, "  --  -02 ", "-- -2"));
     assert!(rt; has_weight(&b2, "+- 0", "1/2 -1/2"));
     let faults = [
         ("++ 3", WordFault::NoLetter { place: 2 }),
@@ -161,18 +160,20 @@ fn tops(rt: HostRuntime) {
 fn fillings(rt: HostRuntime) {
     let made = shape_of(Kind::A, 2, &[2, 1]).expect(&rt, "A_2 is a type");
     let mut filling = Filling::new(&made.ok().expect(&rt, "the rows fall"));
-    assert_eq!(rt; put_letter(&mut filling, 1, 2, 2), Some(Letter(1)));
-    assert_eq!(rt; put_letter(&mut filling, 2, 1, 3), Some(Letter(1)));
+    let one = put_letter(&mut filling, 1, 2, 2);
+    let two = put_letter(&mut filling, 2, 1, 3);
     let shape = filling.shape();
     let word = shape.word_of_rows(&filling);
     assert!(rt; is_printed(&shape.space(), &word, "3 1 2"));
     let mut other = Filling::new(&shape.ordered(Order::Kashiwara));
-    assert_eq!(rt; put_letter(&mut other, 1, 2, 2), Some(Letter(1)));
-    assert_eq!(rt; put_letter(&mut other, 2, 1, 3), Some(Letter(1)));
+    let three = put_letter(&mut other, 1, 2, 2);
+    let four = put_letter(&mut other, 2, 1, 3);
     let turned = other.shape();
     let reversed = turned.word_of_rows(&other);
     assert!(rt; is_printed(&turned.space(), &reversed, "2 1 3"));
+    assert_eq!(rt; [one, two, three, four], [Some(Letter(1)); 4]);
     let mut again = shape.rows_of_word(&word);
-    assert_eq!(rt; put_letter(&mut again, 1, 2, 1), Some(Letter(2)));
-    assert_eq!(rt; put_letter(&mut again, 2, 1, 1), Some(Letter(3)));
+    let five = put_letter(&mut again, 1, 2, 1);
+    let six = put_letter(&mut again, 2, 1, 1);
+    assert_eq!(rt; [five, six], [Some(Letter(2)), Some(Letter(3))]);
 }

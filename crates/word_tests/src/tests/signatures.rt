@@ -35,28 +35,72 @@ fn lifted(space: &Space, code: u64) -> Option<(u64, u32)> {
     Some((space.code_of(&top), raises))
 }
 
+/// In Kashiwara's order the words of C_2 and A_1 are those before them, read from right to left.
 #[test]
 fn worked_words(rt: HostRuntime) {
+    let table = [
+        (
+            Kind::C,
+            2,
+            &[V, V, V] as &[Factor],
+            Order::Standard,
+            33,
+            (Some(37), Some(32), 2, 1),
+        ),
+        (
+            Kind::A,
+            1,
+            &[V, V],
+            Order::Standard,
+            0,
+            (Some(1), None, 2, 0),
+        ),
+        (
+            Kind::A,
+            1,
+            &[V, V],
+            Order::Standard,
+            1,
+            (Some(3), Some(0), 1, 1),
+        ),
+        (
+            Kind::A,
+            1,
+            &[V, V],
+            Order::Standard,
+            3,
+            (None, Some(1), 0, 2),
+        ),
+        (
+            Kind::C,
+            2,
+            &[V, V, V],
+            Order::Kashiwara,
+            18,
+            (Some(22), Some(2), 2, 1),
+        ),
+        (Kind::A, 1, &[V, V], Order::Kashiwara, 1, (None, None, 0, 0)),
+        (
+            Kind::A,
+            1,
+            &[V, V],
+            Order::Kashiwara,
+            2,
+            (Some(3), Some(0), 1, 1),
+        ),
+    ];
+    for (kind, rank, factors, order, code, wanted) in table {
+        let space = made(kind, rank, factors).expect(&rt, "the type has vectors");
+        assert_eq!(rt;
+            strings(&space.ordered(order), code, 1),
+            Some(wanted),
+            "{code}"
+        );
+    }
     let a1 = made(Kind::A, 1, &[V, V]).expect(&rt, "A_1 has vectors");
-    assert_eq!(rt; strings(&a1, 0, 1), Some((Some(1), None, 2, 0)));
-    assert_eq!(rt; strings(&a1, 1, 1), Some((Some(3), Some(0), 1, 1)));
-    assert_eq!(rt; strings(&a1, 3, 1), Some((None, Some(1), 0, 2)));
-    assert_eq!(rt; lifted(&a1, 3), Some((0, 2)));
-    let c2 = made(Kind::C, 2, &[V, V, V]).expect(&rt, "C_2 has vectors");
-    assert_eq!(rt; strings(&c2, 33, 1), Some((Some(37), Some(32), 2, 1)));
-}
-
-/// The same words read from right to left.
-#[test]
-fn worked_words_in_the_other_order(rt: HostRuntime) {
-    let a1 = made(Kind::A, 1, &[V, V]).expect(&rt, "A_1 has vectors");
-    let a1 = a1.ordered(Order::Kashiwara);
-    assert_eq!(rt; strings(&a1, 1, 1), Some((None, None, 0, 0)));
-    assert_eq!(rt; strings(&a1, 2, 1), Some((Some(3), Some(0), 1, 1)));
-    assert_eq!(rt; lifted(&a1, 3), Some((0, 2)));
-    let c2 = made(Kind::C, 2, &[V, V, V]).expect(&rt, "C_2 has vectors");
-    let c2 = c2.ordered(Order::Kashiwara);
-    assert_eq!(rt; strings(&c2, 18, 1), Some((Some(22), Some(2), 2, 1)));
+    for order in [Order::Standard, Order::Kashiwara] {
+        assert_eq!(rt; lifted(&a1.ordered(order), 3), Some((0, 2)));
+    }
 }
 
 /// Whether the pass and the recursion agree on this word.

@@ -1,4 +1,6 @@
 //! Streams that fail where they are told, whole reads and writes, and the adapters of the edge.
+ghost use Rattle.std.specs.Prelude.{◌<◌, length};
+
 use crystal_streams::{
     Failed, InputAdapter, Line, MemorySink, MemorySource, OutputAdapter, ReadEnd, Sink, Source,
     WriteFault, read_all, write_all,
@@ -51,19 +53,38 @@ impl Write for Cup {
     }
 }
 
+/// One read, of which nothing is known.
+fn read_into(source: &mut MemorySource, into: &mut [u8]) -> Result<usize, Failed>
+    requires { 0 < length into.old }
+{
+    source.read(into)
+}
+
+/// One write, of which nothing is known.
+fn write_some(sink: &mut MemorySink, bytes: &[u8]) -> Result<usize, Failed>
+    requires { 0 < length bytes.now }
+{
+    sink.write(bytes)
+}
+
 #[test]
 fn a_memory_source_fails_where_it_is_told(rt: HostRuntime) -> Result<(), Fail> {
     let bytes = b"abcde".to_vec(rt.alloc())?;
     let fails = [2].to_vec(rt.alloc())?;
     let mut source = MemorySource::new(bytes, fails, 2);
     let mut into = [b'-'; 4];
-    assert_eq!(rt; source.read(&mut into), Ok(2));
-    assert_eq!(rt; into, *b"ab--");
-    assert_eq!(rt; source.read(&mut into), Err(Failed));
-    assert_eq!(rt; source.read(&mut into[3..]), Ok(1));
-    assert_eq!(rt; source.read(&mut into), Ok(2));
-    assert_eq!(rt; into, *b"de-c");
-    assert_eq!(rt; source.read(&mut into), Ok(0));
+    let first = read_into(&mut source, &mut into);
+    let begun = into;
+    let second = read_into(&mut source, &mut into);
+    let third = read_into(&mut source, &mut into[3..]);
+    let fourth = read_into(&mut source, &mut into);
+    let ended = into;
+    let fifth = read_into(&mut source, &mut into);
+    assert_eq!(rt;
+        [first, second, third, fourth, fifth],
+        [Ok(2), Err(Failed), Ok(1), Ok(2), Ok(0)]
+    );
+    assert_eq!(rt; [begun, ended], [*b"ab--", *b"de-c"]);
     Ok(())
 }
 
@@ -71,10 +92,14 @@ fn a_memory_source_fails_where_it_is_told(rt: HostRuntime) -> Result<(), Fail> {
 fn a_memory_sink_holds_what_it_took(rt: HostRuntime) -> Result<(), Fail> {
     let fails = [2].to_vec(rt.alloc())?;
     let mut sink = MemorySink::new(rt.alloc(), 5, fails, 3)?;
-    assert_eq!(rt; sink.write(b"abcd"), Ok(3));
-    assert_eq!(rt; sink.write(b"d"), Err(Failed));
-    assert_eq!(rt; sink.write(b"def"), Ok(2));
-    assert_eq!(rt; sink.write(b"f"), Err(Failed));
+    let first = write_some(&mut sink, b"abcd");
+    let second = write_some(&mut sink, b"d");
+    let third = write_some(&mut sink, b"def");
+    let fourth = write_some(&mut sink, b"f");
+    assert_eq!(rt;
+        [first, second, third, fourth],
+        [Ok(3), Err(Failed), Ok(2), Err(Failed)]
+    );
     assert_eq!(rt; sink.bytes(), b"abcde".as_slice());
     Ok(())
 }

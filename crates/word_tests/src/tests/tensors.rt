@@ -25,21 +25,22 @@ fn has_digits(space: &Space, code: u64, digits: &[u16]) -> Option<bool> {
 
 #[test]
 fn codes(rt: HostRuntime) {
-    let a2 = made(Kind::A, 2, &[V, V, V]).expect(&rt, "A_2 has vectors");
-    assert_eq!(rt; has_digits(&a2, 9, &[1, 0, 0]), Some(true));
-    assert_eq!(rt; has_digits(&a2, 23, &[2, 1, 2]), Some(true));
-    assert_eq!(rt; has_digits(&a2, 26, &[2, 2, 2]), Some(true));
-    assert_eq!(rt; has_digits(&a2, 27, &[]), None);
-    let c2 = made(Kind::C, 2, &[V, V]).expect(&rt, "C_2 has vectors");
-    assert_eq!(rt; has_digits(&c2, 9, &[2, 1]), Some(true));
-    assert_eq!(rt; has_digits(&c2, 14, &[3, 2]), Some(true));
-    let b2 = made(Kind::B, 2, &[Factor::Spin, V]).expect(&rt, "B_2 has spin elements");
-    assert_eq!(rt; has_digits(&b2, 7, &[1, 2]), Some(true));
-    let d3 = made(Kind::D, 3, &[Factor::SpinPlus]).expect(&rt, "D_3 has spin elements");
-    assert_eq!(rt; has_digits(&d3, 1, &[1]), Some(true));
-    let a1 = made(Kind::A, 1, &[V, V]).expect(&rt, "A_1 has vectors");
-    assert_eq!(rt; has_digits(&a1, 3, &[1, 1]), Some(true));
-    assert_eq!(rt; has_digits(&a1, 4, &[]), None);
+    let table: [(Kind, u8, &[Factor], u64, &[u16], Option<bool>); 10] = [
+        (Kind::A, 2, &[V, V, V], 9, &[1, 0, 0], Some(true)),
+        (Kind::A, 2, &[V, V, V], 23, &[2, 1, 2], Some(true)),
+        (Kind::A, 2, &[V, V, V], 26, &[2, 2, 2], Some(true)),
+        (Kind::A, 2, &[V, V, V], 27, &[], None),
+        (Kind::C, 2, &[V, V], 9, &[2, 1], Some(true)),
+        (Kind::C, 2, &[V, V], 14, &[3, 2], Some(true)),
+        (Kind::B, 2, &[Factor::Spin, V], 7, &[1, 2], Some(true)),
+        (Kind::D, 3, &[Factor::SpinPlus], 1, &[1], Some(true)),
+        (Kind::A, 1, &[V, V], 3, &[1, 1], Some(true)),
+        (Kind::A, 1, &[V, V], 4, &[], None),
+    ];
+    for (kind, rank, factors, code, digits, answer) in table {
+        let space = made(kind, rank, factors).expect(&rt, "the type has these factors");
+        assert_eq!(rt; has_digits(&space, code, digits), answer, "{code}");
+    }
 }
 
 /// The codes of f_i and e_i of the word with this code, and its phi_i and eps_i.
@@ -72,28 +73,67 @@ fn strings(space: &Space, code: u64, i: u8) -> Option<(Option<u64>, Option<u64>,
     ))
 }
 
+/// In Kashiwara's order the words of C_2 and A_1 are those before them, read from right to left.
 #[test]
 fn operators(rt: HostRuntime) {
-    let c2 = made(Kind::C, 2, &[V, V, V]).expect(&rt, "C_2 has vectors");
-    assert_eq!(rt; strings(&c2, 33, 1), Some((Some(37), Some(32), 2, 1)));
-    let a1 = made(Kind::A, 1, &[V, V]).expect(&rt, "A_1 has vectors");
-    assert_eq!(rt; strings(&a1, 0, 1), Some((Some(1), None, 2, 0)));
-    assert_eq!(rt; strings(&a1, 1, 1), Some((Some(3), Some(0), 1, 1)));
-    assert_eq!(rt; strings(&a1, 3, 1), Some((None, Some(1), 0, 2)));
-}
-
-/// The words of `operators` read from right to left.
-#[test]
-fn operators_in_the_other_order(rt: HostRuntime) {
-    let c2 = made(Kind::C, 2, &[V, V, V]).expect(&rt, "C_2 has vectors");
-    let c2 = c2.ordered(Order::Kashiwara);
-    assert_eq!(rt; c2.order(), Order::Kashiwara);
-    assert_eq!(rt; strings(&c2, 18, 1), Some((Some(22), Some(2), 2, 1)));
-    let a1 = made(Kind::A, 1, &[V, V]).expect(&rt, "A_1 has vectors");
-    assert_eq!(rt; a1.order(), Order::Standard);
-    let a1 = a1.ordered(Order::Kashiwara);
-    assert_eq!(rt; strings(&a1, 1, 1), Some((None, None, 0, 0)));
-    assert_eq!(rt; strings(&a1, 2, 1), Some((Some(3), Some(0), 1, 1)));
+    let table = [
+        (
+            Kind::C,
+            2,
+            &[V, V, V] as &[Factor],
+            Order::Standard,
+            33,
+            (Some(37), Some(32), 2, 1),
+        ),
+        (
+            Kind::A,
+            1,
+            &[V, V],
+            Order::Standard,
+            0,
+            (Some(1), None, 2, 0),
+        ),
+        (
+            Kind::A,
+            1,
+            &[V, V],
+            Order::Standard,
+            1,
+            (Some(3), Some(0), 1, 1),
+        ),
+        (
+            Kind::A,
+            1,
+            &[V, V],
+            Order::Standard,
+            3,
+            (None, Some(1), 0, 2),
+        ),
+        (
+            Kind::C,
+            2,
+            &[V, V, V],
+            Order::Kashiwara,
+            18,
+            (Some(22), Some(2), 2, 1),
+        ),
+        (Kind::A, 1, &[V, V], Order::Kashiwara, 1, (None, None, 0, 0)),
+        (
+            Kind::A,
+            1,
+            &[V, V],
+            Order::Kashiwara,
+            2,
+            (Some(3), Some(0), 1, 1),
+        ),
+    ];
+    for (kind, rank, factors, order, code, wanted) in table {
+        let space = made(kind, rank, factors).expect(&rt, "the type has vectors");
+        assert_eq!(rt; space.order(), Order::Standard);
+        let space = space.ordered(order);
+        assert_eq!(rt; space.order(), order);
+        assert_eq!(rt; strings(&space, code, 1), Some(wanted), "{code}");
+    }
 }
 
 /// The first two coordinates of the weight of the word with this code.

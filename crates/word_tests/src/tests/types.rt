@@ -27,11 +27,25 @@ fn weights_of_rank_two(rt: HostRuntime) {
     assert!(rt; c2.has_index(2) && !c2.has_index(3));
     let short = c2.root(1);
     let long = c2.root(2);
-    assert_eq!(rt; pair(&short), Some((2, -2)));
-    assert_eq!(rt; pair(&c2.reflect(&short, 2)), Some((2, 2)));
-    assert_eq!(rt; pair(&short.plus(&long)), Some((2, 2)));
-    assert_eq!(rt; pair(&short.minus(&long)), Some((2, -6)));
-    assert_eq!(rt; pair(&Weight::zero(c2).put(2, 5)), Some((0, 5)));
+    let pairs = [
+        pair(&short),
+        pair(&c2.reflect(&short, 1)),
+        pair(&c2.reflect(&short, 2)),
+        pair(&short.plus(&long)),
+        pair(&short.minus(&long)),
+        pair(&Weight::zero(c2).put(2, 5)),
+    ];
+    assert_eq!(rt;
+        pairs,
+        [
+            Some((2, -2)),
+            Some((-2, 2)),
+            Some((2, 2)),
+            Some((2, 2)),
+            Some((2, -6)),
+            Some((0, 5))
+        ]
+    );
     assert!(rt; !c2.is_dominant(&long) && c2.is_dominant(&Weight::zero(c2)));
 }
 

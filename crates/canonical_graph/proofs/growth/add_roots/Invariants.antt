@@ -1,10 +1,10 @@
 use Rattle.std.proofs.Common.{◌≡◌, length}
-use Rattle.canonical_graph.specs.Growth.{HasRoots}
+use Rattle.canonical_graph.specs.Growth.{HasFirstRoots}
 use Rattle.canonical_graph.proofs.growth.add_roots.Given as goal
 
 abbrev pub invariant-roots : goal.invariant-roots
 invariant-roots l = record {
-  have : HasRoots l.world.roots l.k l.found;
+  have : HasFirstRoots l.world.roots l.k l.found;
   same : l.roots ≡ l.world.roots;
   last : l.k-end ≡ length l.world.roots;
 }

@@ -1,10 +1,10 @@
 use Rattle.std.proofs.Common.{◌≡◌, length, take, All}
-use Rattle.canonical_graph.specs.Growth.{IsPlaced, codes_in}
+use Rattle.canonical_graph.specs.Growth.{IsPlacedCode, codes_in}
 use Rattle.canonical_graph.proofs.numbering.placed.Given as goal
 
 abbrev pub invariant-found : goal.invariant-found
 invariant-found l = record {
   codes : codes_in l.list.items ≡ take l.place l.found;
-  placed : All (IsPlaced l.found) l.list.items;
+  placed : All (IsPlacedCode l.found) l.list.items;
   last : l.place-end ≡ length l.found;
 }

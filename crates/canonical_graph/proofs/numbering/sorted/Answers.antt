@@ -1,6 +1,6 @@
 use Rattle.std.proofs.Common.{rules}
 use Rattle.std.proofs.lemmas.List.Sorted.{IsNonDecreasingBy-from_sort_by_key, All-permutation}
-use Rattle.canonical_graph.specs.Growth.{IsPlaced}
+use Rattle.canonical_graph.specs.Growth.{IsPlacedCode}
 use Rattle.canonical_graph.proofs.Scattering.{sorted_codes}
 use Rattle.canonical_graph.proofs.numbering.sorted.Goals as goal
 
@@ -12,5 +12,5 @@ returns-clause-sorted c =
 
 pub returns-clause-placed : goal.returns-clause-placed
 returns-clause-placed c =
-    All-permutation (IsPlaced c.args.found.now) c.in_ok-list.list.items c.sort_unstable_by_key.new.self.items c.sort_unstable_by_key.ensures.permutation
+    All-permutation (IsPlacedCode c.args.found.now) c.in_ok-list.list.items c.sort_unstable_by_key.new.self.items c.sort_unstable_by_key.ensures.permutation
     c.in_ok-list.ensures.placed

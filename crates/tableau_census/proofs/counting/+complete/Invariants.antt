@@ -8,4 +8,4 @@ decreases-complete l = 40 - l.place
 
 -- the codes of the digits below this one are listed
 abbrev pub invariant-digits : goal.invariant-digits
-invariant-digits l = IsPartial (next_codes l.shape (box_count l.shape) l.place l.word) l.limit l.low l.top l.digit l.fn.list.items l.list.items
+invariant-digits l = IsPartial (next_codes l.shape (box_count l.shape) l.place l.word) l.limit l.low l.bound l.digit l.fn.list.items l.list.items

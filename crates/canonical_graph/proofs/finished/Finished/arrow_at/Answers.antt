@@ -1,15 +1,15 @@
 use Rattle.std.proofs.Common.{◌≡◌, ◌∙◌, ap, sym, subst}
 use Rattle.crystal_cartan.specs.Types.{CartanType}
 use Rattle.canonical_graph.specs.Graphs.{FinishedType, target_rank}
-use Rattle.canonical_graph.specs.Tables.{IsKept, entry}
+use Rattle.canonical_graph.specs.Tables.{KeepsTables, entry}
 use Rattle.canonical_graph.proofs.Ranks.{target_below}
 use Rattle.canonical_graph.proofs.Rows.{entry_read, no_target, some_target}
 use Rattle.canonical_graph.proofs.finished.Finished.arrow_at.Goals as goal
 
 pub returns-then-target-clause-target : goal.returns-then-target-clause-target
 returns-then-target-clause-target c =
-    let kept : IsKept c.args.self.now c.self.inside.targets.lowered.items c.self.inside.targets.raised.items c.self.inside.targets.arrows =
-    subst (λ (f : FinishedType). IsKept f c.self.inside.targets.lowered.items c.self.inside.targets.raised.items c.self.inside.targets.arrows)
+    let kept : KeepsTables c.args.self.now c.self.inside.targets.lowered.items c.self.inside.targets.raised.items c.self.inside.targets.arrows =
+    subst (λ (f : FinishedType). KeepsTables f c.self.inside.targets.lowered.items c.self.inside.targets.raised.items c.self.inside.targets.arrows)
     c.self.view_is c.self.invariant in
     let read : c.entry-target.result ≡ entry (target_rank c.args.self.now c.args.rank c.args.arrow) =
     entry_read c.args.self.now _ _ _ c.args.rank c.entry-target.result c.rank-indices.result c.args.arrow kept c.requires.rank c.requires.arrow
@@ -19,8 +19,8 @@ returns-then-target-clause-target c =
 
 pub returns-else-target-clause-target : goal.returns-else-target-clause-target
 returns-else-target-clause-target c =
-    let kept : IsKept c.args.self.now c.self.inside.targets.lowered.items c.self.inside.targets.raised.items c.self.inside.targets.arrows =
-    subst (λ (f : FinishedType). IsKept f c.self.inside.targets.lowered.items c.self.inside.targets.raised.items c.self.inside.targets.arrows)
+    let kept : KeepsTables c.args.self.now c.self.inside.targets.lowered.items c.self.inside.targets.raised.items c.self.inside.targets.arrows =
+    subst (λ (f : FinishedType). KeepsTables f c.self.inside.targets.lowered.items c.self.inside.targets.raised.items c.self.inside.targets.arrows)
     c.self.view_is c.self.invariant in
     let read : c.entry-target.result ≡ entry (target_rank c.args.self.now c.args.rank c.args.arrow) =
     entry_read c.args.self.now _ _ _ c.args.rank c.entry-target.result c.rank-indices.result c.args.arrow kept c.requires.rank c.requires.arrow
@@ -30,8 +30,8 @@ returns-else-target-clause-target c =
 
 pub returns-else-target-clause-below : goal.returns-else-target-clause-below
 returns-else-target-clause-below c =
-    let kept : IsKept c.args.self.now c.self.inside.targets.lowered.items c.self.inside.targets.raised.items c.self.inside.targets.arrows =
-    subst (λ (f : FinishedType). IsKept f c.self.inside.targets.lowered.items c.self.inside.targets.raised.items c.self.inside.targets.arrows)
+    let kept : KeepsTables c.args.self.now c.self.inside.targets.lowered.items c.self.inside.targets.raised.items c.self.inside.targets.arrows =
+    subst (λ (f : FinishedType). KeepsTables f c.self.inside.targets.lowered.items c.self.inside.targets.raised.items c.self.inside.targets.arrows)
     c.self.view_is c.self.invariant in
     let read : c.entry-target.result ≡ entry (target_rank c.args.self.now c.args.rank c.args.arrow) =
     entry_read c.args.self.now _ _ _ c.args.rank c.entry-target.result c.rank-indices.result c.args.arrow kept c.requires.rank c.requires.arrow

@@ -1,0 +1,60 @@
+use Rattle.std.proofs.Common.{map, string_bytes, refl, ap}
+use Rattle.answer_text.specs.Answers.{answer_bytes}
+use Rattle.crystal_shell.specs.Heard.{asks_for_job}
+use Rattle.crystal_shell.proofs.Words.{heard_through}
+use Rattle.crystal_shell.proofs.Ends.{called_compared, called_counted, called_grown, called_refused, called_sampled, read_unasked}
+use Rattle.crystal_shell.proofs.running.answer.Goals as goal
+
+pub returns-in-Refused-clause-called : goal.returns-in-Refused-clause-called
+returns-in-Refused-clause-called g c =
+    let is = heard_through (λ b. (goal.Statistic-dyn g (b.vtable, b.value)).named b.value) (λ b. (goal.Statistic-dyn g (b.vtable, b.value)).reported b.value)
+    c.as_slice.result.now c.args.stats.now.items (map string_bytes c.args.words.now) c.in_ok-heard.heard c.as_slice.ensures.value c.in_ok-heard.ensures.heard in
+    let a = c.refused_words in
+    called_refused _ (map string_bytes c.args.words.now) (g.R.Source.left c.args.source.now) c.in_ok-heard.heard is c.in-Refused.fault
+    a.result.status a.result.front a.result.held (answer_bytes a.result.answer) c.in-Refused.is a.ensures.status a.ensures.unkept.0 a.ensures.unkept.1 (ap answer_bytes a.ensures.answer)
+
+pub returns-in_ok-grow-in-Grow-clause-called : goal.returns-in_ok-grow-in-Grow-clause-called
+returns-in_ok-grow-in-Grow-clause-called g c =
+    let is = heard_through (λ b. (goal.Statistic-dyn g (b.vtable, b.value)).named b.value) (λ b. (goal.Statistic-dyn g (b.vtable, b.value)).reported b.value)
+    c.as_slice.result.now c.args.stats.now.items (map string_bytes c.args.words.now) c.in_ok-heard.heard c.as_slice.ensures.value c.in_ok-heard.ensures.heard in
+    let a = c.in_ok-grow-in-Grow in
+    called_grown _ (map string_bytes c.args.words.now) (g.R.Source.left c.args.source.now) c.in_ok-heard.heard is c.in-Grow.growers c.in-Grow.places c.in_ok-input-in-Grow.input
+    a.field-0.status a.field-0.front a.field-0.held (answer_bytes a.field-0.answer) c.in-Grow.is c.in_ok-input-in-Grow.ensures.judged a.ensures.grows
+
+pub returns-in_ok-sample-in-Sample-clause-called : goal.returns-in_ok-sample-in-Sample-clause-called
+returns-in_ok-sample-in-Sample-clause-called g c =
+    let is = heard_through (λ b. (goal.Statistic-dyn g (b.vtable, b.value)).named b.value) (λ b. (goal.Statistic-dyn g (b.vtable, b.value)).reported b.value)
+    c.as_slice.result.now c.args.stats.now.items (map string_bytes c.args.words.now) c.in_ok-heard.heard c.as_slice.ensures.value c.in_ok-heard.ensures.heard in
+    let a = c.in_ok-sample-in-Sample in
+    called_sampled _ (map string_bytes c.args.words.now) (g.R.Source.left c.args.source.now) c.in_ok-heard.heard is c.in-Sample.growers c.in-Sample.number
+    a.field-0.status a.field-0.front a.field-0.held (answer_bytes a.field-0.answer) c.in-Sample.is a.ensures.samples
+
+pub returns-in_ok-sample-in-Sample-clause-read : goal.returns-in_ok-sample-in-Sample-clause-read
+returns-in_ok-sample-in-Sample-clause-read g c =
+    let is = heard_through (λ b. (goal.Statistic-dyn g (b.vtable, b.value)).named b.value) (λ b. (goal.Statistic-dyn g (b.vtable, b.value)).reported b.value)
+    c.as_slice.result.now c.args.stats.now.items (map string_bytes c.args.words.now) c.in_ok-heard.heard c.as_slice.ensures.value c.in_ok-heard.ensures.heard in
+    read_unasked g.R.Source.left g.R.Source.faults _ (map string_bytes c.args.words.now) c.in_ok-heard.heard is c.args.source.now c.args.source.now _ _
+    (ap asks_for_job c.in-Sample.is) refl (λ failed. cc)
+
+pub returns-in_ok-count-in-Census-clause-called : goal.returns-in_ok-count-in-Census-clause-called
+returns-in_ok-count-in-Census-clause-called g c =
+    let is = heard_through (λ b. (goal.Statistic-dyn g (b.vtable, b.value)).named b.value) (λ b. (goal.Statistic-dyn g (b.vtable, b.value)).reported b.value)
+    c.as_slice.result.now c.args.stats.now.items (map string_bytes c.args.words.now) c.in_ok-heard.heard c.as_slice.ensures.value c.in_ok-heard.ensures.heard in
+    let a = c.in_ok-count-in-Census in
+    called_counted _ (map string_bytes c.args.words.now) (g.R.Source.left c.args.source.now) c.in_ok-heard.heard is c.in-Census.shape
+    a.field-0.status a.field-0.front a.field-0.held (answer_bytes a.field-0.answer) c.in-Census.is a.ensures.unkept.0 a.ensures.unkept.1 a.ensures.counts
+
+pub returns-in_ok-count-in-Census-clause-read : goal.returns-in_ok-count-in-Census-clause-read
+returns-in_ok-count-in-Census-clause-read g c =
+    let is = heard_through (λ b. (goal.Statistic-dyn g (b.vtable, b.value)).named b.value) (λ b. (goal.Statistic-dyn g (b.vtable, b.value)).reported b.value)
+    c.as_slice.result.now c.args.stats.now.items (map string_bytes c.args.words.now) c.in_ok-heard.heard c.as_slice.ensures.value c.in_ok-heard.ensures.heard in
+    read_unasked g.R.Source.left g.R.Source.faults _ (map string_bytes c.args.words.now) c.in_ok-heard.heard is c.args.source.now c.args.source.now _ _
+    (ap asks_for_job c.in-Census.is) refl (λ failed. cc)
+
+pub returns-in_ok-matched-in-Match-clause-called : goal.returns-in_ok-matched-in-Match-clause-called
+returns-in_ok-matched-in-Match-clause-called g c =
+    let is = heard_through (λ b. (goal.Statistic-dyn g (b.vtable, b.value)).named b.value) (λ b. (goal.Statistic-dyn g (b.vtable, b.value)).reported b.value)
+    c.as_slice.result.now c.args.stats.now.items (map string_bytes c.args.words.now) c.in_ok-heard.heard c.as_slice.ensures.value c.in_ok-heard.ensures.heard in
+    let a = c.in_ok-matched-in-Match in
+    called_compared _ (map string_bytes c.args.words.now) (g.R.Source.left c.args.source.now) c.in_ok-heard.heard is c.in-Match.relabelling c.in_ok-input-in-Match.input
+    a.field-0.status a.field-0.front a.field-0.held (answer_bytes a.field-0.answer) c.in-Match.is a.ensures.unkept.0 a.ensures.unkept.1 c.in_ok-input-in-Match.ensures.judged a.ensures.compares
