@@ -11,7 +11,7 @@ use Rattle.tensor_words.proofs.Keeps.{op_below}
 use Rattle.tensor_words.proofs.KeptWords.{factors_of_space}
 use Rattle.tensor_words.proofs.Strings.{arrows_lead_back}
 use Rattle.canonical_graph.specs.Graphs.{FinishedType, IsFinished, code_at, rank_in, target_rank, arrow_count}
-use Rattle.canonical_graph.specs.Tables.{entry, entry_at, arrow_to, IsTable, AreLowered, KeepsTables}
+use Rattle.canonical_graph.specs.Tables.{entry_of, entry_at, arrow_to, IsTable, AreLowered, KeepsTables}
 use Rattle.canonical_graph.specs.Turning.{AreArrows, LeadsBack, AreTurned}
 use Rattle.canonical_graph.proofs.Ranks.{place_of_rank, rank_of_code, target_below}
 use Rattle.canonical_graph.proofs.Rows.{in_row}
@@ -57,11 +57,11 @@ returned_target f k t i finished index lt is =
     (lowered_from_raised f.space i (code_at f k) (code_at f t) finished.space index (code_below f k finished lt) (target_leads f k t (arrow_to false i) is))
 
 -- what an entry stands for
-entry_kind : (n : ℕ) (o : Option ℕ) → ((t : ℕ) → o ≡ Some t → t < n) → (entry o ≡ 4294967295) ⊎ (entry o < n)
+entry_kind : (n : ℕ) (o : Option ℕ) → ((t : ℕ) → o ≡ Some t → t < n) → (entry_of o ≡ 4294967295) ⊎ (entry_of o < n)
 entry_kind n None below = inl refl
 entry_kind n (Some t) below = inr (below t refl)
 
-entry_some : (n : ℕ) (o : Option ℕ) → n < 2 ^ 32 → entry o < n → o ≡ Some (entry o)
+entry_some : (n : ℕ) (o : Option ℕ) → n < 2 ^ 32 → entry_of o < n → o ≡ Some (entry_of o)
 entry_some n None few lt = absurd (omega arith)
 entry_some n (Some t) few lt = refl
 
@@ -114,21 +114,21 @@ module _ (f : FinishedType) (low : List ℕ) (finished : IsFinished f) (table : 
       ]
 
       by : (k j x : ℕ) → k < length f.codes → j < f.space.cartan.rank → x ≡ get_or high (k * f.space.cartan.rank + j) 0
-          → LeadsBack f.space.cartan.rank (length f.codes * f.space.cartan.rank) low k j x → x ≡ entry (target_rank f k (arrow_to false (j + 1)))
+          → LeadsBack f.space.cartan.rank (length f.codes * f.space.cartan.rank) low k j x → x ≡ entry_of (target_rank f k (arrow_to false (j + 1)))
       by k j x below within read (inl none) =
-          elim (target_rank f k (arrow_to false (j + 1))) as (λ o. target_rank f k (arrow_to false (j + 1)) ≡ o → x ≡ entry o) [
+          elim (target_rank f k (arrow_to false (j + 1))) as (λ o. target_rank f k (arrow_to false (j + 1)) ≡ o → x ≡ entry_of o) [
             | None ↦ λ is. none
             | Some t ↦ λ is.
                 let there : t < length f.codes = target_below f k (arrow_to false (j + 1)) t is in
                 let leads : get_or low (t * f.space.cartan.rank + j) 0 ≡ k =
-                entry_read t j there within ∙ ap entry (returned_target f k t (j + 1) finished (index_of j within) below is) in
+                entry_read t j there within ∙ ap entry_of (returned_target f k t (j + 1) finished (index_of j within) below is) in
                 let place : t * f.space.cartan.rank + j < length f.codes * f.space.cartan.rank = in_row t (length f.codes) f.space.cartan.rank j there within in
                 read ∙ turned.all t j k there within below place leads
           ] refl
       by k j x below within read (inr (place, leads)) =
           let there : x < length f.codes = place_below x j place in
           let to : target_rank f x (arrow_to true (j + 1)) ≡ Some k = leads_to x j there within (rw leads below) ∙ ap Some leads in
-          sym (ap entry (turned_target f x k (j + 1) finished (index_of j within) there to))
+          sym (ap entry_of (turned_target f x k (j + 1) finished (index_of j within) there to))
 
       rows : (k i : ℕ) → k < length f.codes → 1 ≤ i → i ≤ f.space.cartan.rank → get_or high (k * f.space.cartan.rank + (i - 1)) 0 ≡ entry_at f k false i
       rows k i below low_index high_index =

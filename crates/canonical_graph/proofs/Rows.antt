@@ -10,7 +10,7 @@ use Rattle.crystal_cartan.specs.declared.types.Arrow.{Arrow}
 use Rattle.std.specs.Option.{option_and_then}
 use Rattle.tensor_words.specs.Operators.{IsArrow, op}
 use Rattle.canonical_graph.specs.Graphs.{FinishedType, IsFinished, code_at, rank_in, target_rank, lowering, arrows_from}
-use Rattle.canonical_graph.specs.Tables.{entry, entry_at, arrow_to, row, HasRows, AreLowered, KeepsTables}
+use Rattle.canonical_graph.specs.Tables.{entry_of, entry_at, arrow_to, rank_row, HasRows, AreLowered, KeepsTables}
 use Rattle.canonical_graph.proofs.Ranks.{target_below}
 
 pub in_row : (rank n r j : ℕ) → rank < n → j < r → rank * r + j < n * r
@@ -71,7 +71,7 @@ more_arrows f n = sum_more (arrows_from f) 0 n n (omega arith)
 pub none_lowered : (f : FinishedType) (xs : List ℕ) (arrows : ℕ) → xs ≡ [] → arrows ≡ 0 → AreLowered f 0 xs arrows
 none_lowered f xs arrows empty none = rw empty (record { table = no_rows 0 (λ rank i. entry_at f rank true i) f.space.cartan.rank; counted = none })
 
-pub more_lowered : (f : FinishedType) (n before arrows : ℕ) (xs new : List ℕ) → AreLowered f n xs before → new ≡ xs ++ row f n true f.space.cartan.rank
+pub more_lowered : (f : FinishedType) (n before arrows : ℕ) (xs new : List ℕ) → AreLowered f n xs before → new ≡ xs ++ rank_row f n true f.space.cartan.rank
     → arrows ≡ before + arrows_from f n → AreLowered f (n + 1) new arrows
 more_lowered f n before arrows xs new have is counted = record {
   table = more_rows 0 (λ rank i. entry_at f rank true i) f.space.cartan.rank n xs new have.table is;
@@ -83,24 +83,24 @@ all_lowered f n count arrows xs all have = rw all at have
 
 -- what stands in the table of a direction
 pub entry_in : (f : FinishedType) (low high : List ℕ) (arrows rank : ℕ) (a : Arrow) → KeepsTables f low high arrows → rank < length f.codes → IsArrow f.space a
-    → get_or (if a.down then low else high) (rank * f.space.cartan.rank + (a.index - 1)) 0 ≡ entry (target_rank f rank a)
+    → get_or (if a.down then low else high) (rank * f.space.cartan.rank + (a.index - 1)) 0 ≡ entry_of (target_rank f rank a)
 entry_in f low high arrows rank a kept lt fits = by a.down a.index fits.index
   where
     by : (down : Bool) (i : ℕ) → HasIndex f.space.cartan i
-        → get_or (if down then low else high) (rank * f.space.cartan.rank + (i - 1)) 0 ≡ entry (target_rank f rank (arrow_to down i))
+        → get_or (if down then low else high) (rank * f.space.cartan.rank + (i - 1)) 0 ≡ entry_of (target_rank f rank (arrow_to down i))
     by true i index = kept.lowered.rows rank i lt index.low index.high
     by false i index = kept.raised.rows rank i lt index.low index.high
 
-pub no_target : (f : FinishedType) (rank t : ℕ) (a : Arrow) → IsFinished f → t ≡ entry (target_rank f rank a) → t ≡ 4294967295 → None ≡ target_rank f rank a
+pub no_target : (f : FinishedType) (rank t : ℕ) (a : Arrow) → IsFinished f → t ≡ entry_of (target_rank f rank a) → t ≡ 4294967295 → None ≡ target_rank f rank a
 no_target f rank t a finished read last =
-    elim (target_rank f rank a) as (λ o. target_rank f rank a ≡ o → t ≡ entry o → None ≡ o) [
+    elim (target_rank f rank a) as (λ o. target_rank f rank a ≡ o → t ≡ entry_of o → None ≡ o) [
       | None ↦ λ is at. refl
       | Some u ↦ λ is at. absurd (omega (arith, finished.few, target_below f rank a u is))
     ] refl read
 
-pub some_target : (f : FinishedType) (rank t : ℕ) (a : Arrow) → t ≡ entry (target_rank f rank a) → (t ≡ 4294967295 → ⊥) → Some t ≡ target_rank f rank a
+pub some_target : (f : FinishedType) (rank t : ℕ) (a : Arrow) → t ≡ entry_of (target_rank f rank a) → (t ≡ 4294967295 → ⊥) → Some t ≡ target_rank f rank a
 some_target f rank t a read other =
-    elim (target_rank f rank a) as (λ o. t ≡ entry o → Some t ≡ o) [
+    elim (target_rank f rank a) as (λ o. t ≡ entry_of o → Some t ≡ o) [
       | None ↦ λ at. absurd (other at)
       | Some u ↦ λ at. ap Some at
     ] read
@@ -110,7 +110,7 @@ one_at_most true = omega arith
 one_at_most false = omega arith
 
 pub entry_read : (f : FinishedType) (low high : List ℕ) (arrows rank t r : ℕ) (a : Arrow) → KeepsTables f low high arrows → rank < length f.codes
-    → IsArrow f.space a → r ≡ f.space.cartan.rank → t ≡ get_or (if a.down then low else high) (rank * r + (a.index - 1)) 0 → t ≡ entry (target_rank f rank a)
+    → IsArrow f.space a → r ≡ f.space.cartan.rank → t ≡ get_or (if a.down then low else high) (rank * r + (a.index - 1)) 0 → t ≡ entry_of (target_rank f rank a)
 entry_read f low high arrows rank t r a kept lt fits width read = rw width at read ∙ entry_in f low high arrows rank a kept lt fits
 
 -- the target, from what the operator gives
@@ -120,9 +120,9 @@ unfolding target_rank
 target_is f rank a o t gives is = rw gives at is
 
 pub entry_on : (f : FinishedType) (rank : ℕ) (down : Bool) (n : ℕ) (t : Option ℕ) (old xs new : List ℕ) → t ≡ target_rank f rank (arrow_to down (n + 1))
-    → xs ≡ old ++ row f rank down n → new ≡ xs ++ entry t ∷ [] → new ≡ old ++ row f rank down (n + 1)
+    → xs ≡ old ++ rank_row f rank down n → new ≡ xs ++ entry_of t ∷ [] → new ≡ old ++ rank_row f rank down (n + 1)
 entry_on f rank down n t old xs new leads before is =
-    more_entries (λ i. entry_at f rank down i) n (n + 1) old xs new (omega arith) before (is ∙ ap (λ t. xs ++ entry t ∷ []) leads)
+    more_entries (λ i. entry_at f rank down i) n (n + 1) old xs new (omega arith) before (is ∙ ap (λ t. xs ++ entry_of t ∷ []) leads)
 
 pub arrows_on : (f : FinishedType) (rank n : ℕ) (t : Option ℕ) (before total after : ℕ) → t ≡ target_rank f rank (arrow_to true (n + 1))
     → total ≡ before + count_by (λ i. is_some (target_rank f rank (lowering i))) (range_with_len 1 n)

@@ -6,20 +6,20 @@ use Rattle.crystal_cartan.specs.declared.types.Arrow.{Arrow}
 use Rattle.canonical_graph.specs.Graphs.{FinishedType, IsFinished, target_rank, arrows_from, arrow_count}
 
 -- an entry is the rank to which the operator leads, or 2^32 - 1 where it gives zero
-abbrev pub entry : Option ℕ → ℕ
-entry None = 4294967295
-entry (Some rank) = rank
+abbrev pub entry_of : Option ℕ → ℕ
+entry_of None = 4294967295
+entry_of (Some rank) = rank
 
 -- the arrow f_i or e_i
 abbrev pub arrow_to : Bool → ℕ → Arrow
 arrow_to down i = record { down = down; index = i }
 
 abbrev pub entry_at : FinishedType → ℕ → Bool → ℕ → ℕ
-entry_at f rank down i = entry (target_rank f rank (arrow_to down i))
+entry_at f rank down i = entry_of (target_rank f rank (arrow_to down i))
 
 -- the entries of the first n indices at a vertex
-abbrev pub row : FinishedType → ℕ → Bool → ℕ → List ℕ
-row f rank down n = map (λ i. entry_at f rank down i) (range_with_len 1 n)
+abbrev pub rank_row : FinishedType → ℕ → Bool → ℕ → List ℕ
+rank_row f rank down n = map (λ i. entry_at f rank down i) (range_with_len 1 n)
 
 -- the list has n rows of r entries; `at k i` is the entry of the row k, from 0, at the index i
 pub record HasRows {X : Type 0} (beyond : X) (at : ℕ → ℕ → X) (r n : ℕ) (entries : List X) : Type 0 where

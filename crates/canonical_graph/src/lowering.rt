@@ -3,7 +3,7 @@ ghost use Rattle.std.specs.Prelude.{◌≡◌, ℕ, ◌+◌, ◌*◌, ◌^◌, �
 ghost use Rattle.std.specs.Option.{option_and_then};
 ghost use Rattle.std.specs.List.Sorted.{IsStrictlyIncreasing};
 ghost use Rattle.canonical_graph.specs.Graphs.{IsFinished, finished_graph, rank_in, arrows_from};
-ghost use Rattle.canonical_graph.specs.Tables.{AreLowered, entry, row};
+ghost use Rattle.canonical_graph.specs.Tables.{AreLowered, entry_of, rank_row};
 ghost use Rattle.canonical_graph.specs.Growth.{HasNexts, AreRanks, IsNote, IsPlacedCode, noted_in, codes_in};
 
 use crate::frontier::{Growth, NO_PLACE};
@@ -73,7 +73,7 @@ impl Lowered {
         requires finished { IsFinished (finished_graph steps.now codes.now) }
         requires rank { rank < length codes.now }
         requires room { self.old.arrows ≤ 2 ^ 40 }
-        ensures ranks { OnOk result (self.new.ranks.items ≡ self.old.ranks.items ++ row (finished_graph steps.now codes.now) rank true steps.now.cartan.rank) }
+        ensures ranks { OnOk result (self.new.ranks.items ≡ self.old.ranks.items ++ rank_row (finished_graph steps.now codes.now) rank true steps.now.cartan.rank) }
         ensures arrows { OnOk result (self.new.arrows ≡ self.old.arrows + arrows_from (finished_graph steps.now codes.now) rank) }
         ensures few { OnOk result (self.new.arrows ≤ self.old.arrows + 8) }
     {
@@ -101,7 +101,7 @@ impl Lowered {
         requires placed { All (IsPlacedCode growth.now.found) list.now }
         requires lowered { HasNexts steps.now growth.now.found (length growth.now.found) growth.now.lowered.items }
         requires ranks { AreRanks (codes_in list.now) growth.now.found ranks.now }
-        ensures ranks { OnOk result (self.new.ranks.items ≡ self.old.ranks.items ++ row (finished_graph steps.now (codes_in list.now)) rank true steps.now.cartan.rank) }
+        ensures ranks { OnOk result (self.new.ranks.items ≡ self.old.ranks.items ++ rank_row (finished_graph steps.now (codes_in list.now)) rank true steps.now.cartan.rank) }
         ensures arrows { OnOk result (self.new.arrows ≡ self.old.arrows + arrows_from (finished_graph steps.now (codes_in list.now)) rank) }
         ensures few { OnOk result (self.new.arrows ≤ self.old.arrows + 8) }
     {
@@ -118,7 +118,7 @@ impl Lowered {
     /// Appends the entry of one index, at which the operator leads to this rank.
     fn push(&mut self, target: Option<u32>) -> Result<(), AllocError>
         requires room { self.old.arrows ≤ 2 ^ 41 }
-        ensures ranks { OnOk result (self.new.ranks.items ≡ self.old.ranks.items ++ entry target ∷ []) }
+        ensures ranks { OnOk result (self.new.ranks.items ≡ self.old.ranks.items ++ entry_of target ∷ []) }
         ensures arrows { OnOk result (self.new.arrows ≡ self.old.arrows + (if is_some target then 1 else 0)) }
     {
         self.ranks.push(target.unwrap_or(NO_TARGET))?;

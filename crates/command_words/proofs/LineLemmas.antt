@@ -6,7 +6,7 @@ use Rattle.clap.specs.Matches.{found_of}
 use Rattle.clap.specs.declared.parser.matches.ArgMatches.{ArgMatches}
 use Rattle.clap.specs.Walk.{Held, Row, Rule, Step, Text, Waiting, Walk, after_step, arg_by_index, finished, idle, nothing_held, positional, rows_of, to_positional, value, walk_from, walked, word_met}
 use Rattle.command_words.specs.Judge.{is_dashed}
-use Rattle.command_words.specs.Line.{line_app, line_rows, row_of}
+use Rattle.command_words.specs.Line.{line_app, line_rows, arg_row}
 
 pub line_is_simple : is_simple line_app ≡ true
 line_is_simple = refl
@@ -43,19 +43,19 @@ rules = (built line_app).top.rules
 
 abbrev rest_rows : List Text → List Row
 rest_rows [] = []
-rest_rows (word ∷ words) = row_of (codes "REST") (word ∷ words) ∷ []
+rest_rows (word ∷ words) = arg_row (codes "REST") (word ∷ words) ∷ []
 
 abbrev held : List Row → Text → Text → Held
 held rows id word = record { rows = rows; pending = Some (id, word ∷ []); skip = 0 }
 
 abbrev both_rows : Text → Text → List Row
-both_rows mode growers = row_of (codes "MODE") (mode ∷ []) ∷ row_of (codes "GROWERS") (growers ∷ []) ∷ []
+both_rows mode growers = arg_row (codes "MODE") (mode ∷ []) ∷ arg_row (codes "GROWERS") (growers ∷ []) ∷ []
 
 abbrev after_mode : Text → Walk
 after_mode mode = between (held [] (codes "MODE") mode) idle 2
 
 abbrev after_growers : Text → Text → Walk
-after_growers mode growers = between (held (row_of (codes "MODE") (mode ∷ []) ∷ []) (codes "GROWERS") growers) idle 3
+after_growers mode growers = between (held (arg_row (codes "MODE") (mode ∷ []) ∷ []) (codes "GROWERS") growers) idle 3
 
 -- the words `seen` and then `last` were further words
 abbrev after_rest : Text → Text → List Text → Text → Walk
@@ -68,7 +68,7 @@ growers_step : (mode growers : Text) → is_dashed growers ≡ false → walked 
 growers_step mode growers plain = idle_step rules (held [] (codes "MODE") mode) 2 growers plain
 
 first_step : (mode growers word : Text) → is_dashed word ≡ false → walked rules [] (after_growers mode growers) word ≡ after_rest mode growers [] word
-first_step mode growers word plain = idle_step rules (held (row_of (codes "MODE") (mode ∷ []) ∷ []) (codes "GROWERS") growers) 3 word plain
+first_step mode growers word plain = idle_step rules (held (arg_row (codes "MODE") (mode ∷ []) ∷ []) (codes "GROWERS") growers) 3 word plain
 
 rest_step : (mode growers : Text) (seen : List Text) (last word : Text) → is_dashed word ≡ false
     → walked rules [] (after_rest mode growers seen last) word ≡ after_rest mode growers (seen ++ last ∷ []) word
@@ -80,14 +80,14 @@ neither true b is = absurd (true≢false is)
 neither false b is = (refl, is)
 
 rest_finished : (mode growers : Text) (seen : List Text) (last : Text) (words : List Text) → list_any is_dashed words ≡ false
-    → finished rules (fold (walked rules []) (after_rest mode growers seen last) words).held ≡ both_rows mode growers ++ row_of (codes "REST") (seen ++ last ∷ words) ∷ []
+    → finished rules (fold (walked rules []) (after_rest mode growers seen last) words).held ≡ both_rows mode growers ++ arg_row (codes "REST") (seen ++ last ∷ words) ∷ []
 rest_finished mode growers [] last [] plain = refl
 rest_finished mode growers (x ∷ xs) last [] plain = refl
 rest_finished mode growers seen last (word ∷ words) plain =
     let parts = neither _ _ plain in
     ap (λ w. finished rules (fold (walked rules []) w words).held) (rest_step mode growers seen last word parts.0)
     ∙ rest_finished mode growers (seen ++ last ∷ []) word words parts.1
-    ∙ ap (λ ws. both_rows mode growers ++ row_of (codes "REST") ws ∷ []) (append_assoc seen (last ∷ []) (word ∷ words))
+    ∙ ap (λ ws. both_rows mode growers ++ arg_row (codes "REST") ws ∷ []) (append_assoc seen (last ∷ []) (word ∷ words))
 
 growers_reached : (mode growers : Text) → is_dashed mode ≡ false → is_dashed growers ≡ false
     → walked rules [] (walked rules [] (walk_from nothing_held) mode) growers ≡ after_growers mode growers

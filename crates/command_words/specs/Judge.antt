@@ -31,8 +31,8 @@ abbrev pub has_word : List Text → Text → Bool
 has_word texts word = list_any (λ text. bytes_eq text word) texts
 
 -- the place of the first statistic of this name
-abbrev pub place_in : List Text → Text → Option ℕ
-place_in names word = position (λ name. bytes_eq name word) names
+abbrev pub name_place : List Text → Text → Option ℕ
+name_place names word = position (λ name. bytes_eq name word) names
 
 -- what a further word of `grow` names, if it stood before and the place of its statistic are known
 abbrev pub place_or_fault : Bool → Option ℕ → Result ℕ WordsFault
@@ -41,7 +41,7 @@ place_or_fault stood_before (Some place) = if stood_before then Err RepeatedStat
 
 -- the place that a further word of `grow` names, after the words `seen`
 abbrev pub place_named : List Text → List Text → Text → Result ℕ WordsFault
-place_named names seen word = place_or_fault (has_word seen word) (place_in names word)
+place_named names seen word = place_or_fault (has_word seen word) (name_place names word)
 
 -- one place and those after it; of two faults the first
 abbrev pub with_place : Result ℕ WordsFault → Result (List ℕ) WordsFault

@@ -18,8 +18,8 @@ line_app =
     (record (new_rule (codes "REST")) { action = Some Append })
 
 -- the words that an argument got
-abbrev pub row_of : Text → List Text → Row
-row_of id words = record {
+abbrev pub arg_row : Text → List Text → Row
+arg_row id words = record {
   id = id;
   values = words;
   count = None;
@@ -30,9 +30,9 @@ row_of id words = record {
 -- what words of which none begins with `-` give to the arguments
 abbrev pub line_rows : List Text → List Row
 line_rows [] = []
-line_rows (mode ∷ []) = row_of (codes "MODE") (mode ∷ []) ∷ []
+line_rows (mode ∷ []) = arg_row (codes "MODE") (mode ∷ []) ∷ []
 line_rows (mode ∷ growers ∷ []) =
-    row_of (codes "MODE") (mode ∷ []) ∷ row_of (codes "GROWERS") (growers ∷ []) ∷ []
+    arg_row (codes "MODE") (mode ∷ []) ∷ arg_row (codes "GROWERS") (growers ∷ []) ∷ []
 line_rows (mode ∷ growers ∷ word ∷ words) =
-    row_of (codes "MODE") (mode ∷ []) ∷ row_of (codes "GROWERS") (growers ∷ [])
-    ∷ row_of (codes "REST") (word ∷ words) ∷ []
+    arg_row (codes "MODE") (mode ∷ []) ∷ arg_row (codes "GROWERS") (growers ∷ [])
+    ∷ arg_row (codes "REST") (word ∷ words) ∷ []

@@ -19,15 +19,15 @@ unfoldable pub character_report : List Item → List ℕ
 character_report items = multiplicity_lines (tally (map (λ x. x.weight) items))
 
 -- eps_i and phi_i of an item
-abbrev pub eps_at : ℕ → Item → ℕ
-eps_at i x = slice_index x.eps (i - 1)
+abbrev pub item_eps : ℕ → Item → ℕ
+item_eps i x = slice_index x.eps (i - 1)
 
-abbrev pub phi_at : ℕ → Item → ℕ
-phi_at i x = slice_index x.phi (i - 1)
+abbrev pub item_phi : ℕ → Item → ℕ
+item_phi i x = slice_index x.phi (i - 1)
 
 -- whether e_i gives zero on the item, and those of a list for which it does
 abbrev pub is_head : ℕ → Item → Bool
-is_head i x = eps_at i x == 0
+is_head i x = item_eps i x == 0
 
 abbrev pub heads : ℕ → List Item → List Item
 heads i items = filter (is_head i) items
@@ -39,7 +39,7 @@ greatest ns = fold max 0 ns
 -- the report `strings`: for each index i of the first item's type a line `i | N | M`, where N items have eps_i = 0,
 -- and M is the greatest phi_i of these
 unfoldable pub string_text : List Item → ℕ → List ℕ
-string_text items i = decimal i ++ bar ++ decimal (length (heads i items)) ++ bar ++ decimal (greatest (map (phi_at i) (heads i items)))
+string_text items i = decimal i ++ bar ++ decimal (length (heads i items)) ++ bar ++ decimal (greatest (map (item_phi i) (heads i items)))
 
 abbrev pub string_lines : List Item → ℕ → List ℕ
 string_lines items n = flat_map (λ i. ended (string_text items i)) (range_with_len 1 n)
@@ -50,7 +50,7 @@ string_report (x ∷ items) = string_lines (x ∷ items) x.cartan.rank
 
 -- whether the item is at an end of its string of index i, and at every index of its type
 abbrev pub is_end_at : Item → ℕ → Bool
-is_end_at x i = (eps_at i x == 0) || (phi_at i x == 0)
+is_end_at x i = (item_eps i x == 0) || (item_phi i x == 0)
 
 abbrev pub is_end : Item → Bool
 is_end x = list_all (is_end_at x) (range_with_len 1 x.cartan.rank)

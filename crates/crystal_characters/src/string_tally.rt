@@ -1,6 +1,6 @@
 //! The statistic `strings`.
 ghost use Rattle.std.specs.Prelude.{◌≡◌, ◌<◌, ◌≤◌, length, codes, map};
-ghost use Rattle.crystal_characters.specs.Reports.{string_report, string_text, string_lines, heads, greatest, phi_at, Appends};
+ghost use Rattle.crystal_characters.specs.Reports.{string_report, string_text, string_lines, heads, greatest, item_phi, Appends};
 
 use crate::items::Item;
 use crate::printing::print_number;
@@ -74,7 +74,7 @@ fn head_count(items: &[Item], i: u8) -> u64
 /// The greatest phi_i of these items, 0 where there is none.
 fn longest(items: &[Item], i: u8) -> u32
     requires { (1 ≤ i) × (i ≤ 8) }
-    ensures { result ≡ greatest (map (phi_at i) (heads i items.now)) }
+    ensures { result ≡ greatest (map (item_phi i) (heads i items.now)) }
 {
     let mut longest = 0u32;
     'items: for item in items {

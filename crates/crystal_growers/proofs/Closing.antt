@@ -18,7 +18,7 @@ use Rattle.parcel_deques.specs.Gather.{all_taken, IsGathered, AreGathered}
 use Rattle.parcel_deques.proofs.Weights.{weigh-append}
 use Rattle.crystal_growers.specs.declared.work.Start.{Start}
 use Rattle.crystal_growers.specs.Growth.{HasEnded, rest_of}
-use Rattle.crystal_growers.specs.Slips.{stakes, HasCell, all_pushed}
+use Rattle.crystal_growers.specs.Slips.{slip_stakes, HasCell, all_pushed}
 use Rattle.crystal_growers.specs.Work.{IsWaiting}
 use Rattle.crystal_growers.specs.Shifts.{GoesOn}
 use Rattle.crystal_growers.specs.Gather.{HasGrown, IsSpentBy, IsNumberOf, IsPaidUp, HasCollected, AreHome, HasCleared, FinishedWith, HasFinished}
@@ -172,7 +172,7 @@ module _ {J : Type 0} (g : GraphValue) (old mid now : SeatValue) (starts : List 
     stake =
         let k = c.stake in
         let l = f.stake in
-        let pushed : stakes (all_pushed home) ≡ stakes (all_pushed benches) = ap stakes pushed_is in
+        let pushed : slip_stakes (all_pushed home) ≡ slip_stakes (all_pushed benches) = ap slip_stakes pushed_is in
         let taken = h.slips (λ (y : Slip). y.stake) in
         let all = f.all (λ (y : Slip). y.stake) in
         let sum = weigh-append (λ (y : Slip). y.stake) (all_taken home) f.got in

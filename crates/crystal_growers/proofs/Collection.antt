@@ -23,9 +23,9 @@ use Rattle.crystal_growers.specs.declared.work.Ending.TheVariants.{Spent as Spen
 use Rattle.crystal_growers.specs.declared.work.Start.{Start}
 use Rattle.crystal_growers.specs.declared.work.Shift.{Shift}
 use Rattle.crystal_growers.specs.Growth.{HasEnded}
-use Rattle.crystal_growers.specs.Slips.{stakes, HasCell, all_pushed}
+use Rattle.crystal_growers.specs.Slips.{slip_stakes, HasCell, all_pushed}
 use Rattle.crystal_growers.specs.Workers.{HasStopped, IsFullAfter, IsShift}
-use Rattle.crystal_growers.specs.Gather.{IsStart, AreStarts, worth, begun, HasGrown, HasNumber, IsSpentBy, IsNumberOf, IsPaidUp, AreShifts, HasCollected}
+use Rattle.crystal_growers.specs.Gather.{IsStart, AreStarts, worth, starting_slips, HasGrown, HasNumber, IsSpentBy, IsNumberOf, IsPaidUp, AreShifts, HasCollected}
 use Rattle.crystal_growers.proofs.Parts.{none_in, first_in}
 use Rattle.crystal_growers.proofs.SlipCells.{no_cell, cell_front, cell_back, cell_or, same_cells}
 use Rattle.crystal_growers.proofs.DrawnCells.{whole_later}
@@ -53,8 +53,8 @@ pub record IsCollecting {J : Type 0} (g : GraphValue) (first now : SeatValue) (s
   pub live : k < now.view.stake
   pub count : length benches ≡ k
   pub apart : (i : ℕ) (d : BenchValue) → i < k → IsApart call i (get_or benches i d)
-  pub stake : now.view.stake + stakes (all_pushed benches) + worth (drop k starts) ≡ first.view.stake + worth starts + stakes (all_taken benches)
-  pub has : (c : ℕ) → HasCell (begun starts) c → HasCell (all_pushed benches) c ⊎ HasCell (begun (drop k starts)) c
+  pub stake : now.view.stake + slip_stakes (all_pushed benches) + worth (drop k starts) ≡ first.view.stake + worth starts + slip_stakes (all_taken benches)
+  pub has : (c : ℕ) → HasCell (starting_slips starts) c → HasCell (all_pushed benches) c ⊎ HasCell (starting_slips (drop k starts)) c
   pub owes : (c : ℕ) → Contains first.view.dues.owed c ⊎ HasCell (all_taken benches) c → Contains now.view.dues.owed c
   pub ended : HasEnded (IsPaidUp g first.view.dues.owed first.view.dues.unpaid now) (IsSpentBy (IsNumberOf starts) news now.view.front) full
 
@@ -137,25 +137,25 @@ module _ {J : Type 0} (g : GraphValue) (first mid now : SeatValue) (starts : Lis
   came : (c : ℕ) → Contains t.seat.view.dues.owed c → Contains now.view.dues.owed c
   came c owed = subst (λ (l : List ℕ). Contains l c) (sym dues_owed) (Contains-append_right mid.view.dues.owed t.seat.view.dues.owed c owed)
 
-  stake : now.view.stake + stakes (all_pushed (benches ++ t.bench ∷ [])) + worth (drop (k + 1) starts) ≡ first.view.stake + worth starts + stakes (all_taken (benches ++ t.bench ∷ []))
+  stake : now.view.stake + slip_stakes (all_pushed (benches ++ t.bench ∷ [])) + worth (drop (k + 1) starts) ≡ first.view.stake + worth starts + slip_stakes (all_taken (benches ++ t.bench ∷ []))
   stake =
       let e = p.stake in
       let sum : now.view.stake ≡ mid.view.stake + t.seat.view.stake = ap (λ (v : View). v.stake) step.is in
       let own_stake = h.working.worked.acted.stake in
-      let pushed : stakes (all_pushed (benches ++ t.bench ∷ [])) ≡ stakes (all_pushed benches ++ t.bench.pushed) = ap stakes (pushed_push benches t.bench) in
+      let pushed : slip_stakes (all_pushed (benches ++ t.bench ∷ [])) ≡ slip_stakes (all_pushed benches ++ t.bench.pushed) = ap slip_stakes (pushed_push benches t.bench) in
       let pushed_sum = weigh-append (λ (y : Slip). y.stake) (all_pushed benches) t.bench.pushed in
-      let here : stakes t.bench.pushed ≡ stakes (s.bench.pushed ++ h.working.given) = ap stakes pushed_is in
+      let here : slip_stakes t.bench.pushed ≡ slip_stakes (s.bench.pushed ++ h.working.given) = ap slip_stakes pushed_is in
       let here_sum = weigh-append (λ (y : Slip). y.stake) s.bench.pushed h.working.given in
-      let taken : stakes (all_taken (benches ++ t.bench ∷ [])) ≡ stakes (all_taken benches ++ t.bench.taken) = ap stakes (taken_push benches t.bench) in
+      let taken : slip_stakes (all_taken (benches ++ t.bench ∷ [])) ≡ slip_stakes (all_taken benches ++ t.bench.taken) = ap slip_stakes (taken_push benches t.bench) in
       let taken_sum = weigh-append (λ (y : Slip). y.stake) (all_taken benches) t.bench.taken in
       let same = taken_same (λ (y : Slip). y.stake) in
-      let rest : worth (drop k starts) ≡ s.seat.view.stake + stakes s.bench.pushed + worth (drop (k + 1) starts) = ap (λ (l : List (Start J)). worth l) rest_is in
+      let rest : worth (drop k starts) ≡ s.seat.view.stake + slip_stakes s.bench.pushed + worth (drop (k + 1) starts) = ap (λ (l : List (Start J)). worth l) rest_is in
       omega arith
 
-  has : (c : ℕ) → HasCell (begun starts) c → HasCell (all_pushed (benches ++ t.bench ∷ [])) c ⊎ HasCell (begun (drop (k + 1) starts)) c
+  has : (c : ℕ) → HasCell (starting_slips starts) c → HasCell (all_pushed (benches ++ t.bench ∷ [])) c ⊎ HasCell (starting_slips (drop (k + 1) starts)) c
   has c some = elim (p.has c some) [
     | inl l ↦ inl (subst (λ (l : List Slip). HasCell l c) (sym (pushed_push benches t.bench)) (cell_front (all_pushed benches) t.bench.pushed c l))
-    | inr r ↦ elim (cell_or s.bench.pushed (begun (drop (k + 1) starts)) c (subst (λ (l : List (Start J)). HasCell (begun l) c) rest_is r)) [
+    | inr r ↦ elim (cell_or s.bench.pushed (starting_slips (drop (k + 1) starts)) c (subst (λ (l : List (Start J)). HasCell (starting_slips l) c) rest_is r)) [
       | inl here ↦ inl (subst (λ (l : List Slip). HasCell l c) (sym (pushed_push benches t.bench))
           (cell_back (all_pushed benches) t.bench.pushed c (subst (λ (l : List Slip). HasCell l c) (sym pushed_is) (cell_front s.bench.pushed h.working.given c here))))
       | inr rest ↦ inr rest
@@ -243,7 +243,7 @@ has_collected {J} g first now starts benches k full are p all = record {
   apart = record { call = are.call; long = are.long ∙ sym all ∙ sym p.count; each = λ i d below. p.apart i d (let m = p.count in omega arith) };
   live = subst (λ (n : ℕ). n < now.view.stake) all p.live;
   stake = let e = p.stake in let n : worth (drop k starts) ≡ 0 = ap (λ (l : List (Start J)). worth l) none in omega arith;
-  has = λ c h. elim (p.has c h) [ inl l ↦ l | inr r ↦ absurd (no_cell c (subst (λ (l : List (Start J)). HasCell (begun l) c) none r)) ];
+  has = λ c h. elim (p.has c h) [ inl l ↦ l | inr r ↦ absurd (no_cell c (subst (λ (l : List (Start J)). HasCell (starting_slips l) c) none r)) ];
   owes = p.owes;
   ended = p.ended;
 }

@@ -22,10 +22,10 @@ use Rattle.parcel_deques.specs.Benches.{BenchValue}
 use Rattle.parcel_deques.specs.Making.{IsApart, AreNew}
 use Rattle.parcel_deques.proofs.Weights.{weigh-append}
 use Rattle.crystal_growers.specs.declared.work.Start.{Start}
-use Rattle.crystal_growers.specs.Slips.{stakes, HasCell, all_pushed}
+use Rattle.crystal_growers.specs.Slips.{slip_stakes, HasCell, all_pushed}
 use Rattle.crystal_growers.specs.Work.{CanDraw}
 use Rattle.crystal_growers.specs.Shifts.{HasPushed}
-use Rattle.crystal_growers.specs.Gather.{numbers, AreIdle, HasLoaded, IsStart, AreStarts, worth, begun, HasStarted}
+use Rattle.crystal_growers.specs.Gather.{numbers, AreIdle, HasLoaded, IsStart, AreStarts, worth, starting_slips, HasStarted}
 use Rattle.crystal_growers.specs.Grow.{IsLost, HasBegun}
 use Rattle.crystal_growers.proofs.Coming.{lost_gave}
 use Rattle.crystal_growers.proofs.Parts.{none_in, rest_both, rest_has, distinct_split}
@@ -71,7 +71,7 @@ pub record IsLoading (first now : SeatValue) (cells rest : List ℕ) (count capa
   pub table : now.table ≡ first.table
   pub view : now.view ≡ record first.view { next = first.view.next + parcels; left = first.view.left - parcels; stake = now.view.stake; dues = left_dues (take (parcels * 64) cells) first.view.dues }
   pub counted : now.view.stake + parcels ≡ first.view.stake
-  pub stake : now.view.stake + stakes (all_pushed benches) ≡ first.view.stake
+  pub stake : now.view.stake + slip_stakes (all_pushed benches) ≡ first.view.stake
   pub enough : count < now.view.stake
   pub has : (c : ℕ) → Contains (take (parcels * 64) cells) c → HasCell (all_pushed benches) c
   pub many : length benches ≡ count
@@ -89,7 +89,7 @@ loading_none s cells count capacity benches many enough new = record {
   table = refl;
   view = λ i. record s.view { next = next i; left = left i; dues = dues i };
   counted = omega arith;
-  stake = ap (λ (l : List Slip). s.view.stake + stakes l) none ∙ (let e : s.view.stake + 0 ≡ s.view.stake = omega arith in e);
+  stake = ap (λ (l : List Slip). s.view.stake + slip_stakes l) none ∙ (let e : s.view.stake + 0 ≡ s.view.stake = omega arith in e);
   enough = enough;
   has = λ c h. absurd (none_in c (subst (λ (n : ℕ). Contains (take n cells) c) (sym zero_times) h));
   many = many;
@@ -259,13 +259,13 @@ has_loaded first now cells rest count capacity parcels n benches p is = record {
         sym (drop_front (take (parcels * 64) cells) rest) ∙ ap (λ (l : List ℕ). drop (length (take (parcels * 64) cells)) l) split ∙ ap (λ (k : ℕ). drop k cells) same
 
 -- lists of growers that begin
-pub worth_push : {J : Type 0} (ss : List (Start J)) (s : Start J) → worth (ss ++ s ∷ []) ≡ worth ss + (s.seat.view.stake + stakes s.bench.pushed)
+pub worth_push : {J : Type 0} (ss : List (Start J)) (s : Start J) → worth (ss ++ s ∷ []) ≡ worth ss + (s.seat.view.stake + slip_stakes s.bench.pushed)
 worth_push [] s = omega arith
 worth_push (t ∷ ss) s = let rest = worth_push ss s in omega arith
 
-pub begun_push : {J : Type 0} (ss : List (Start J)) (s : Start J) → begun (ss ++ s ∷ []) ≡ begun ss ++ s.bench.pushed
+pub begun_push : {J : Type 0} (ss : List (Start J)) (s : Start J) → starting_slips (ss ++ s ∷ []) ≡ starting_slips ss ++ s.bench.pushed
 begun_push [] s = append-nil s.bench.pushed
-begun_push (t ∷ ss) s = ap (λ (l : List Slip). t.bench.pushed ++ l) (begun_push ss s) ∙ sym (append_assoc t.bench.pushed (begun ss) s.bench.pushed)
+begun_push (t ∷ ss) s = ap (λ (l : List Slip). t.bench.pushed ++ l) (begun_push ss s) ∙ sym (append_assoc t.bench.pushed (starting_slips ss) s.bench.pushed)
 
 -- some growers have a seat, and the other benches are left
 pub record IsStarting {J : Type 0} (g : GraphValue) (first now : SeatValue) (benches left : List BenchValue) (starts : List (Start J)) (k share : ℕ) : Type 0 where
@@ -273,9 +273,9 @@ pub record IsStarting {J : Type 0} (g : GraphValue) (first now : SeatValue) (ben
   pub view : now.view ≡ record first.view { next = first.view.next + k * numbers; left = first.view.left - k * numbers; stake = now.view.stake }
   pub left_is : left ≡ drop k benches
   pub within : k ≤ length benches
-  pub stake : now.view.stake + worth starts + stakes (all_pushed left) ≡ first.view.stake + stakes (all_pushed benches)
+  pub stake : now.view.stake + worth starts + slip_stakes (all_pushed left) ≡ first.view.stake + slip_stakes (all_pushed benches)
   pub enough : (length benches - k) * share < now.view.stake
-  pub has : (c : ℕ) → HasCell (all_pushed benches) c → HasCell (begun starts) c ⊎ HasCell (all_pushed left) c
+  pub has : (c : ℕ) → HasCell (all_pushed benches) c → HasCell (starting_slips starts) c ⊎ HasCell (all_pushed left) c
   pub call : List DequeId
   pub long : length call ≡ length benches
   pub apart : (i : ℕ) (d : BenchValue) → i < length benches → IsApart call i (get_or benches i d) × ((get_or benches i d).taken ≡ [])
@@ -328,9 +328,9 @@ module _ {J : Type 0} (g : GraphValue) (first mid now : SeatValue) (benches left
     stake = stake;
     enough = enough_left;
     has = λ c h. elim (p.has c h) [
-      | inl l ↦ inl (subst (λ (l : List Slip). HasCell l c) (sym (begun_push starts s)) (cell_front (begun starts) s.bench.pushed c l))
+      | inl l ↦ inl (subst (λ (l : List Slip). HasCell l c) (sym (begun_push starts s)) (cell_front (starting_slips starts) s.bench.pushed c l))
       | inr r ↦ elim (cell_or (get_or benches k b).pushed (all_pushed (drop (k + 1) benches)) c (subst (λ (l : List BenchValue). HasCell (all_pushed l) c) (p.left_is ∙ rest_is) r)) [
-        | inl here ↦ inl (subst (λ (l : List Slip). HasCell l c) (sym (begun_push starts s)) (cell_back (begun starts) s.bench.pushed c (subst (λ (y : BenchValue). HasCell y.pushed c) (sym bench) here)))
+        | inl here ↦ inl (subst (λ (l : List Slip). HasCell l c) (sym (begun_push starts s)) (cell_back (starting_slips starts) s.bench.pushed c (subst (λ (y : BenchValue). HasCell y.pushed c) (sym bench) here)))
         | inr rest ↦ inr (subst (λ (l : List BenchValue). HasCell (all_pushed l) c) (sym left_later) rest)
       ]
     ];
@@ -368,7 +368,7 @@ module _ {J : Type 0} (g : GraphValue) (first mid now : SeatValue) (benches left
       enough_left : (length benches - (k + 1)) * share < now.view.stake
       enough_left = let e = p.enough in let l = places in let d = down in omega arith
 
-      stake : now.view.stake + worth (starts ++ s ∷ []) + stakes (all_pushed later) ≡ first.view.stake + stakes (all_pushed benches)
+      stake : now.view.stake + worth (starts ++ s ∷ []) + slip_stakes (all_pushed later) ≡ first.view.stake + slip_stakes (all_pushed benches)
       stake =
           let e = p.stake in
           let l = places in
@@ -376,10 +376,10 @@ module _ {J : Type 0} (g : GraphValue) (first mid now : SeatValue) (benches left
           let d = down in
           let o = own in
           let w = worth_push starts s in
-          let r : stakes (all_pushed left) ≡ stakes ((get_or benches k b).pushed ++ all_pushed (drop (k + 1) benches)) = ap (λ (l : List BenchValue). stakes (all_pushed l)) (p.left_is ∙ rest_is) in
+          let r : slip_stakes (all_pushed left) ≡ slip_stakes ((get_or benches k b).pushed ++ all_pushed (drop (k + 1) benches)) = ap (λ (l : List BenchValue). slip_stakes (all_pushed l)) (p.left_is ∙ rest_is) in
           let a = weigh-append (λ (y : Slip). y.stake) (get_or benches k b).pushed (all_pushed (drop (k + 1) benches)) in
-          let q : stakes (all_pushed later) ≡ stakes (all_pushed (drop (k + 1) benches)) = ap (λ (l : List BenchValue). stakes (all_pushed l)) left_later in
-          let u : stakes s.bench.pushed ≡ stakes (get_or benches k b).pushed = ap (λ (y : BenchValue). stakes y.pushed) bench in
+          let q : slip_stakes (all_pushed later) ≡ slip_stakes (all_pushed (drop (k + 1) benches)) = ap (λ (l : List BenchValue). slip_stakes (all_pushed l)) left_later in
+          let u : slip_stakes s.bench.pushed ≡ slip_stakes (get_or benches k b).pushed = ap (λ (y : BenchValue). slip_stakes y.pushed) bench in
           omega arith
 
       one : IsStart g first.view.front p.call k s
@@ -434,7 +434,7 @@ pub has_started : {J : Type 0} (g : GraphValue) (first now : SeatValue) (benches
 has_started g first now benches left starts k share p all = record {
   table = p.table;
   view = subst (λ (n : ℕ). now.view ≡ record first.view { next = first.view.next + n * numbers; left = first.view.left - n * numbers; stake = now.view.stake }) all p.view;
-  stake = let e = p.stake in let n : stakes (all_pushed left) ≡ 0 = ap (λ (l : List BenchValue). stakes (all_pushed l)) none in omega arith;
+  stake = let e = p.stake in let n : slip_stakes (all_pushed left) ≡ 0 = ap (λ (l : List BenchValue). slip_stakes (all_pushed l)) none in omega arith;
   has = λ c h. elim (p.has c h) [ inl l ↦ l | inr r ↦ absurd (no_cell c (subst (λ (l : List BenchValue). HasCell (all_pushed l) c) none r)) ];
   count = p.count ∙ all;
   starts_are = record { call = p.call; long = p.long ∙ sym all ∙ sym p.count; each = λ i d below. p.each i d (let m = p.count in omega arith) };

@@ -18,7 +18,7 @@ use Rattle.parcel_deques.specs.Gather.{all_taken}
 use Rattle.crystal_growers.specs.declared.work.Start.{Start}
 use Rattle.crystal_growers.specs.declared.work.Shift.{Shift}
 use Rattle.crystal_growers.specs.Growth.{Grew, HasEnded, rest_of}
-use Rattle.crystal_growers.specs.Slips.{stakes, HasCell, all_pushed}
+use Rattle.crystal_growers.specs.Slips.{slip_stakes, HasCell, all_pushed}
 use Rattle.crystal_growers.specs.Shifts.{HasWorked}
 use Rattle.crystal_growers.specs.Workers.{IsShift}
 use Rattle.tensor_words.specs.Worlds.{WorldType}
@@ -38,7 +38,7 @@ pub record HasLoaded (old now : SeatValue) (cells rest : List ℕ) (count : ℕ)
   pub table : now.table ≡ old.table
   pub view : now.view ≡ record old.view { next = old.view.next + parcels; left = old.view.left - parcels; stake = now.view.stake; dues = left_dues loaded old.view.dues }
   pub counted : now.view.stake + parcels ≡ old.view.stake
-  pub stake : now.view.stake + stakes (all_pushed benches) ≡ old.view.stake
+  pub stake : now.view.stake + slip_stakes (all_pushed benches) ≡ old.view.stake
   pub enough : count < now.view.stake
   pub many : length benches ≡ count
   pub has : (c : ℕ) → Contains loaded c → HasCell (all_pushed benches) c
@@ -67,18 +67,18 @@ pub record AreStarts {J : Type 0} (g : GraphValue) (front : List Event) (starts 
 -- the stakes that growers begin with, at their seats and in their parcels; and their slips
 abbrev pub worth : {J : Type 0} → List (Start J) → ℕ
 worth [] = 0
-worth (s ∷ ss) = s.seat.view.stake + stakes s.bench.pushed + worth ss
+worth (s ∷ ss) = s.seat.view.stake + slip_stakes s.bench.pushed + worth ss
 
-abbrev pub begun : {J : Type 0} → List (Start J) → List Slip
-begun [] = []
-begun (s ∷ ss) = s.bench.pushed ++ begun ss
+abbrev pub starting_slips : {J : Type 0} → List (Start J) → List Slip
+starting_slips [] = []
+starting_slips (s ∷ ss) = s.bench.pushed ++ starting_slips ss
 
 -- the seats of growers were split off
 pub record HasStarted {J : Type 0} (g : GraphValue) (old now : SeatValue) (benches : List BenchValue) (starts : List (Start J)) : Type 0 where
   pub table : now.table ≡ old.table
   pub view : now.view ≡ record old.view { next = old.view.next + length benches * numbers; left = old.view.left - length benches * numbers; stake = now.view.stake }
-  pub stake : now.view.stake + worth starts ≡ old.view.stake + stakes (all_pushed benches)
-  pub has : (c : ℕ) → HasCell (all_pushed benches) c → HasCell (begun starts) c
+  pub stake : now.view.stake + worth starts ≡ old.view.stake + slip_stakes (all_pushed benches)
+  pub has : (c : ℕ) → HasCell (all_pushed benches) c → HasCell (starting_slips starts) c
   pub count : length starts ≡ length benches
   pub starts_are : AreStarts g old.view.front starts
   pub fresh : (s : Start J) → Contains starts s → IsUnused old.view s.seat.view.number
@@ -135,8 +135,8 @@ pub record HasCollected {J : Type 0} (g : GraphValue) (old now : SeatValue) (sta
   pub keeps : (n : ℕ) → IsNumberOf starts n → HasNumber news n
   pub apart : AreApart benches
   pub live : length starts < now.view.stake
-  pub stake : now.view.stake + stakes (all_pushed benches) ≡ old.view.stake + worth starts + stakes (all_taken benches)
-  pub has : (c : ℕ) → HasCell (begun starts) c → HasCell (all_pushed benches) c
+  pub stake : now.view.stake + slip_stakes (all_pushed benches) ≡ old.view.stake + worth starts + slip_stakes (all_taken benches)
+  pub has : (c : ℕ) → HasCell (starting_slips starts) c → HasCell (all_pushed benches) c
   pub owes : (c : ℕ) → Contains old.view.dues.owed c ⊎ HasCell (all_taken benches) c → Contains now.view.dues.owed c
   pub ended : HasEnded (IsPaidUp g old.view.dues.owed old.view.dues.unpaid now) (IsSpentBy (IsNumberOf starts) news now.view.front) full
 
@@ -162,6 +162,6 @@ pub record HasFinished (g : GraphValue) (old now : SeatValue) (benches : List Be
   pub grown : HasGrown g (λ n. n ≡ old.view.next) old now 1 news
   pub got : List Slip
   pub all : SameItems (all_taken benches ++ got) (all_pushed benches)
-  pub stake : now.view.stake ≡ old.view.stake + stakes got
+  pub stake : now.view.stake ≡ old.view.stake + slip_stakes got
   pub owes : (c : ℕ) → Contains old.view.dues.owed c ⊎ HasCell got c → Contains now.view.dues.owed c
   pub ended : FinishedWith g old now rest news before full

@@ -14,7 +14,7 @@ use Rattle.crystal_growers.specs.declared.growing.Grown.TheVariants.{Closed, Ful
 use Rattle.crystal_growers.specs.declared.work.Start.{Start}
 use Rattle.crystal_growers.specs.Growth.{GrowsFrom, HasEnded, rest_of}
 use Rattle.crystal_growers.specs.Slips.{HasCell}
-use Rattle.crystal_growers.specs.Gather.{numbers, AreStarts, worth, begun, HasGrown, HasNumber, IsNumberOf, IsPaidUp, IsSpentBy}
+use Rattle.crystal_growers.specs.Gather.{numbers, AreStarts, worth, starting_slips, HasGrown, HasNumber, IsNumberOf, IsPaidUp, IsSpentBy}
 
 -- the callers of a growth: the seat, and the numbers that it had to give before and keeps now
 abbrev pub IsGrower : View → View → ℕ → Type 0
@@ -80,7 +80,7 @@ pub record HasBegun {J : Type 0} (g : GraphValue) (old now : SeatValue) (cells r
   pub view : now.view ≡ record old.view { next = old.view.next + (parcels + growers * numbers); left = old.view.left - (parcels + growers * numbers); stake = now.view.stake; dues = left_dues loaded old.view.dues }
   pub few : parcels ≤ 2 ^ 16
   pub stake : now.view.stake + worth starts ≡ old.view.stake
-  pub has : (c : ℕ) → Contains loaded c → HasCell (begun starts) c
+  pub has : (c : ℕ) → Contains loaded c → HasCell (starting_slips starts) c
   pub count : length starts ≡ growers
   pub starts_are : AreStarts g old.view.front starts
   pub fresh : (n : ℕ) → IsNumberOf starts n → IsUnused old.view n
@@ -96,5 +96,5 @@ pub record HasClosed {J : Type 0} (g : GraphValue) (old now : SeatValue) (starts
   pub grown : HasGrown g (IsNumberIn starts old.view) old now 1 news
   pub keeps : (n : ℕ) → IsNumberOf starts n → HasNumber news n
   pub stake : now.view.stake ≡ old.view.stake + worth starts
-  pub owes : (c : ℕ) → Contains old.view.dues.owed c ⊎ HasCell (begun starts) c → Contains now.view.dues.owed c
+  pub owes : (c : ℕ) → Contains old.view.dues.owed c ⊎ HasCell (starting_slips starts) c → Contains now.view.dues.owed c
   pub ended : HasEnded (IsPaidUp g (rest_of rest old.view.dues.owed) (rest_of rest old.view.dues.unpaid) now) (IsSpentBy (IsNumberIn starts old.view) news now.view.front) full

@@ -9,7 +9,7 @@ use Rattle.parcel_deques.specs.Parcels.{owned_by}
 use Rattle.parcel_deques.specs.Benches.{BenchValue, HasAll, FoundOwnEmpty}
 use Rattle.crystal_growers.specs.declared.drawing.Drawn.{Drawn}
 use Rattle.crystal_growers.specs.Growth.{Grew}
-use Rattle.crystal_growers.specs.Slips.{stakes, HasCell}
+use Rattle.crystal_growers.specs.Slips.{slip_stakes, HasCell}
 use Rattle.crystal_growers.specs.Work.{IsEnded}
 
 -- a seat went on as a grower's. What it did is growth. It took in the seats of the slips `got`, under whose numbers nobody
@@ -23,7 +23,7 @@ pub record HasActed (g : GraphValue) (old now : SeatValue) (got given : List Sli
   pub news : List Kept
   pub kept : now.view.kept ≡ old.view.kept ++ news
   pub quiet : (m : Kept) → Contains news m → m.calls ≡ []
-  pub stake : now.view.stake + stakes given ≡ old.view.stake + stakes got
+  pub stake : now.view.stake + slip_stakes given ≡ old.view.stake + slip_stakes got
 
 -- besides, it owes all that it owed, and the cells of the slips that it took
 pub record HasWorked (g : GraphValue) (old now : SeatValue) (got given : List Slip) : Type 0 where

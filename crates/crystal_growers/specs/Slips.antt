@@ -5,8 +5,8 @@ use Rattle.parcel_deques.specs.Lists.{weigh}
 use Rattle.parcel_deques.specs.Benches.{BenchValue}
 
 -- the stakes of the slips together
-abbrev pub stakes : List Slip → ℕ
-stakes = weigh (λ (x : Slip). x.stake)
+abbrev pub slip_stakes : List Slip → ℕ
+slip_stakes = weigh (λ (x : Slip). x.stake)
 
 -- some slip has the cell
 abbrev pub HasCell : List Slip → ℕ → Type 0

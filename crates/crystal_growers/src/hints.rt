@@ -1,9 +1,7 @@
 //! Where words were met.
 use graph_history::Added;
+use intern_cells::SPREAD;
 use std::alloc::{AllocError, Global};
-
-/// The odd number next to 2^64 divided by the golden ratio, which spreads codes that lie close.
-const SPREAD: u64 = 11_400_714_819_323_198_485;
 
 /// The most places: they take a mebibyte.
 const MOST_PLACES: usize = 262_144;

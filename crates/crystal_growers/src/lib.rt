@@ -25,9 +25,8 @@
 //!
 //! It stands on intern_cells and edge_words for words and arrows of the table, on graph_rule for its seats, on
 //! parcel_deques for parcels and deques, on graph_history for what desks promise, and on canonical_graph for finished
-//! graphs. Read `shared` with
-//! specs/SharedDesks.antt first, then `rows` with specs/Expanding.antt, `growing` with specs/Grow.antt, `work` with
-//! specs/Shifts.antt and specs/Workers.antt, and `finishing`.
+//! graphs. Read `shared` with specs/SharedDesks.antt first, then `rows` with specs/Expanding.antt, `growing` with
+//! specs/Grow.antt, `work` with specs/Shifts.antt and specs/Workers.antt, and `finishing`.
 #![tactic(auto)]
 
 mod both_ends;

@@ -12,14 +12,14 @@ use Rattle.crystal_cartan.specs.declared.types.Arrow.{Arrow}
 use Rattle.tensor_words.specs.Operators.{op}
 use Rattle.tensor_words.specs.Reach.{IsPath, walk}
 use Rattle.signature_rule.proofs.Paths.{path-push}
-use Rattle.crystal_match.specs.declared.search.Origin.{Origin}
+use Rattle.crystal_match.specs.declared.search.PairOrigin.{PairOrigin}
 use Rattle.crystal_match.specs.declared.search.Search.{Search}
 use Rattle.crystal_match.specs.Relabelling.{relabelled}
 use Rattle.crystal_match.specs.Listings.{pair_at, pair_eq}
 use Rattle.crystal_match.specs.Telling.{PointedType, IsPointed, Tells, first_end, second_end, IsFirstTelling}
 use Rattle.signature_rule.specs.ArrowOrder.{arrow_place}
 use Rattle.crystal_match.specs.Matching.{IsCountedPair, PairsOutnumber}
-use Rattle.crystal_match.specs.Search.{walk_at, number, next_number, IsSettled, IsSearch, IsTold}
+use Rattle.crystal_match.specs.Search.{walk_at, number, step_number, IsSettled, IsSearch, IsTold}
 use Rattle.crystal_match.proofs.PairLists.{pair_equiv, pair_exact, same_pair, pair_place}
 use Rattle.crystal_match.proofs.Numbers.{place_below, numbered-push, no_longer, not_behind}
 use Rattle.crystal_match.proofs.Relabels.{rank_some}
@@ -71,7 +71,7 @@ few_pairs m limit end found few within among o = omega (arith, o.many, few, coun
     counted : length o.pairs ≤ length (take end found)
     counted = length-le_from_is_member pair_equiv o.pairs (take end found) o.distinct member
 
-module _ (m : PointedType) (is : IsPointed m) (n at end : ℕ) (found : List (ℕ × ℕ)) (origins : List Origin) (s : IsSearch m n at end found origins) where
+module _ (m : PointedType) (is : IsPointed m) (n at end : ℕ) (found : List (ℕ × ℕ)) (origins : List PairOrigin) (s : IsSearch m n at end found origins) where
   some : 1 ≤ m.space.cartan.rank
   some = rank_some m is
 
@@ -79,7 +79,7 @@ module _ (m : PointedType) (is : IsPointed m) (n at end : ℕ) (found : List (�
   first_there = omega (arith, s.count)
 
   -- a kept list and then an arrow
-  pushed_number : (j : ℕ) (a : Arrow) → number m (walk_at s.walks j ++ a ∷ []) ≡ next_number m s.walks j (arrow_place m.space.cartan.rank a)
+  pushed_number : (j : ℕ) (a : Arrow) → number m (walk_at s.walks j ++ a ∷ []) ≡ step_number m s.walks j (arrow_place m.space.cartan.rank a)
   pushed_number j a = numbered-push m.space.cartan.rank 1 (walk_at s.walks j) a
 
   pushed_length : (j : ℕ) (a : Arrow) → length (walk_at s.walks j ++ a ∷ []) ≡ length (walk_at s.walks j) + 1
@@ -101,7 +101,7 @@ module _ (m : PointedType) (is : IsPointed m) (n at end : ℕ) (found : List (�
           (f.place, f.within, same_pair (pair_at found f.place) p left right, f.early)
 
 -- no list tells the marks apart before the search has come to its end, so each pair that was found counts
-pub too_many : (m : PointedType) → IsPointed m → (limit at end : ℕ) (found : List (ℕ × ℕ)) (origins : List Origin) → IsSearch m 0 at end found origins
+pub too_many : (m : PointedType) → IsPointed m → (limit at end : ℕ) (found : List (ℕ × ℕ)) (origins : List PairOrigin) → IsSearch m 0 at end found origins
     → at ≡ end → at < length found → limit < length found → IsDistinct pair_eq found → PairsOutnumber m limit
 too_many m is limit at end found origins s here within over distinct = many_pairs m limit found distinct over counted
   where
@@ -187,7 +187,7 @@ module _ (m : PointedType) (is : IsPointed m) (a : Arrow) (s : Search) (t : IsTo
       ]
 
 -- where all arrows of all pairs are followed
-module _ (m : PointedType) (is : IsPointed m) (at end : ℕ) (found : List (ℕ × ℕ)) (origins : List Origin) (s : IsSearch m 0 at end found origins) (all : at ≡ length found) where
+module _ (m : PointedType) (is : IsPointed m) (at end : ℕ) (found : List (ℕ × ℕ)) (origins : List PairOrigin) (s : IsSearch m 0 at end found origins) (all : at ≡ length found) where
   pub none_open : (k : ℕ) → IsOpen m 0 at end found origins s k → ⊥
   none_open k left = elim left.later [
     | inl after ↦ omega (arith, after, all, left.within)

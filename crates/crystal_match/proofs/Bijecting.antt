@@ -12,14 +12,14 @@ use Rattle.crystal_cartan.specs.declared.types.Arrow.{Arrow}
 use Rattle.tensor_words.specs.Spaces.{SpaceType, IsSpace, size}
 use Rattle.tensor_words.specs.Operators.{IsArrow, op}
 use Rattle.tensor_words.specs.Reach.{IsPath, walk, IsReachedFrom}
-use Rattle.crystal_match.specs.declared.search.Origin.{Origin}
+use Rattle.crystal_match.specs.declared.search.PairOrigin.{PairOrigin}
 use Rattle.crystal_match.specs.declared.search.Search.{Search}
 use Rattle.crystal_match.specs.declared.search.SearchEnd.TheVariants.{Closed, Told, TooMany}
 use Rattle.crystal_match.specs.Relabelling.{relabelled}
 use Rattle.crystal_match.specs.Listings.{pair_at, pair_eq, firsts, seconds}
 use Rattle.crystal_match.specs.Telling.{PointedType, IsPointed, IsFirstTelling}
 use Rattle.crystal_match.specs.Matching.{AreSame, PairsOutnumber}
-use Rattle.crystal_match.specs.Search.{walk_at, AreWalks, numbered, number, IsSettled, IsSearch, IsSearchEnded}
+use Rattle.crystal_match.specs.Search.{walk_at, AreWalks, number_from, number, IsSettled, IsSearch, IsSearchEnded}
 use Rattle.crystal_match.proofs.PairLists.{pair_equiv, same_pair, pair_place, in_map, from_map}
 use Rattle.crystal_match.proofs.Relabels.{rank_some, relabelled_path, path_twice}
 use Rattle.crystal_match.proofs.Back.{walk-nil, walk-cons, walk-none, back, back_path, walk_below, walk_back, back_relabelled}
@@ -35,7 +35,7 @@ walks_meet s path c d e space arrows low lower first second =
     let same : Some c ≡ Some d = sym one ∙ two in
     cc
 
-module _ (m : PointedType) (is : IsPointed m) (at end : ℕ) (found : List (ℕ × ℕ)) (origins : List Origin) (s : IsSearch m 0 at end found origins) (all : at ≡ length found) where
+module _ (m : PointedType) (is : IsPointed m) (at end : ℕ) (found : List (ℕ × ℕ)) (origins : List PairOrigin) (s : IsSearch m 0 at end found origins) (all : at ≡ length found) where
   some : 1 ≤ m.space.cartan.rank
   some = rank_some m is
 
@@ -52,11 +52,11 @@ module _ (m : PointedType) (is : IsPointed m) (at end : ℕ) (found : List (ℕ 
 
   -- from a pair that was found each list leads to none, or to a pair that was found
   leads_on : (path : List Arrow) (j : ℕ) → IsPath m.space path → j < length found
-      → IsSettled m found s.walks (numbered m.space.cartan.rank (number m (walk_at s.walks j)) path) (walk m.space path (pair_at found j).0)
+      → IsSettled m found s.walks (number_from m.space.cartan.rank (number m (walk_at s.walks j)) path) (walk m.space path (pair_at found j).0)
       (walk m.space (map (relabelled m.relabel) path) (pair_at found j).1)
   leads_on path j arrows low = elim (settles m 0 at end found origins s some path j (number m (walk_at s.walks j)) arrows low (omega arith)) [
     | inl settled ↦ settled
-    | inr left ↦ absurd (none_open m is at end found origins s all (numbered m.space.cartan.rank (number m (walk_at s.walks j)) path) left)
+    | inr left ↦ absurd (none_open m is at end found origins s all (number_from m.space.cartan.rank (number m (walk_at s.walks j)) path) left)
   ]
 
   -- one of the two ends is known
@@ -100,7 +100,7 @@ module _ (m : PointedType) (is : IsPointed m) (at end : ℕ) (found : List (ℕ 
   one_second : (i j : ℕ) → i < length found → j < length found → (pair_at found i).0 ≡ (pair_at found j).0 → (pair_at found i).1 ≡ (pair_at found j).1
   one_second i j low lower same =
       let arrows = home_path j lower in
-      let h = by_first (numbered m.space.cartan.rank (number m (walk_at s.walks i)) (back (walk_at s.walks j))) (walk m.space (back (walk_at s.walks j)) (pair_at found i).0)
+      let h = by_first (number_from m.space.cartan.rank (number m (walk_at s.walks i)) (back (walk_at s.walks j))) (walk m.space (back (walk_at s.walks j)) (pair_at found i).0)
       (walk m.space (map (relabelled m.relabel) (back (walk_at s.walks j))) (pair_at found i).1) m.first (leads_on (back (walk_at s.walks j)) i arrows low)
       (ap (λ x. walk m.space (back (walk_at s.walks j)) x) same ∙ first_home j lower) in
       let mark : (pair_at found h.0).1 ≡ m.second = second_mark h.0 h.1 h.2 in
@@ -110,7 +110,7 @@ module _ (m : PointedType) (is : IsPointed m) (at end : ℕ) (found : List (ℕ 
   one_first : (i j : ℕ) → i < length found → j < length found → (pair_at found i).1 ≡ (pair_at found j).1 → (pair_at found i).0 ≡ (pair_at found j).0
   one_first i j low lower same =
       let arrows = home_path j lower in
-      let h = by_second (numbered m.space.cartan.rank (number m (walk_at s.walks i)) (back (walk_at s.walks j))) (walk m.space (back (walk_at s.walks j)) (pair_at found i).0)
+      let h = by_second (number_from m.space.cartan.rank (number m (walk_at s.walks i)) (back (walk_at s.walks j))) (walk m.space (back (walk_at s.walks j)) (pair_at found i).0)
       (walk m.space (map (relabelled m.relabel) (back (walk_at s.walks j))) (pair_at found i).1) m.second (leads_on (back (walk_at s.walks j)) i arrows low)
       (ap (λ y. walk m.space (map (relabelled m.relabel) (back (walk_at s.walks j))) y) same ∙ second_home j lower) in
       let mark : (pair_at found h.0).0 ≡ m.first = first_mark h.0 h.1 h.2 in
@@ -126,7 +126,7 @@ module _ (m : PointedType) (is : IsPointed m) (at end : ℕ) (found : List (ℕ 
   first_reached c r =
       let root : m.first ≡ r.root = one_root m.first r.root r.rooted in
       let start : (pair_at found 0).0 ≡ m.first = ap (λ (p : ℕ × ℕ). p.0) s.marks in
-      let h = by_first (numbered m.space.cartan.rank (number m (walk_at s.walks 0)) r.path) (walk m.space r.path (pair_at found 0).0)
+      let h = by_first (number_from m.space.cartan.rank (number m (walk_at s.walks 0)) r.path) (walk m.space r.path (pair_at found 0).0)
       (walk m.space (map (relabelled m.relabel) r.path) (pair_at found 0).1) c (leads_on r.path 0 r.arrows first_there)
       (ap (λ x. walk m.space r.path x) (start ∙ root) ∙ r.leads) in
       (h.0, h.1, h.2)
@@ -140,7 +140,7 @@ module _ (m : PointedType) (is : IsPointed m) (at end : ℕ) (found : List (ℕ 
       let root : m.second ≡ r.root = one_root m.second r.root r.rooted in
       let start : (pair_at found 0).1 ≡ m.second = ap (λ (p : ℕ × ℕ). p.1) s.marks in
       let arrows = relabelled_path m is r.path r.arrows in
-      let h = by_second (numbered m.space.cartan.rank (number m (walk_at s.walks 0)) (map (relabelled m.relabel) r.path)) (walk m.space (map (relabelled m.relabel) r.path) (pair_at found 0).0)
+      let h = by_second (number_from m.space.cartan.rank (number m (walk_at s.walks 0)) (map (relabelled m.relabel) r.path)) (walk m.space (map (relabelled m.relabel) r.path) (pair_at found 0).0)
       (walk m.space (map (relabelled m.relabel) (map (relabelled m.relabel) r.path)) (pair_at found 0).1) c (leads_on (map (relabelled m.relabel) r.path) 0 arrows first_there)
       (ap (λ (p : List Arrow). walk m.space p (pair_at found 0).1) (path_twice m is r.path r.arrows) ∙ ap (λ y. walk m.space r.path y) (start ∙ root) ∙ r.leads) in
       (h.0, h.1, h.2)
@@ -170,7 +170,7 @@ module _ (m : PointedType) (is : IsPointed m) (at end : ℕ) (found : List (ℕ 
 
   -- one arrow
   arrow_on : (i : ℕ) (a : Arrow) → i < length found → IsArrow m.space a
-      → IsSettled m found s.walks (numbered m.space.cartan.rank (number m (walk_at s.walks i)) (a ∷ [])) (op m.space a (pair_at found i).0) (op m.space (relabelled m.relabel a) (pair_at found i).1)
+      → IsSettled m found s.walks (number_from m.space.cartan.rank (number m (walk_at s.walks i)) (a ∷ [])) (op m.space a (pair_at found i).0) (op m.space (relabelled m.relabel a) (pair_at found i).1)
   arrow_on i a low fits =
       let here = leads_on (a ∷ []) i (fits, tt) low in
       rw (one_step m.space a (pair_at found i).0, one_step m.space (relabelled m.relabel a) (pair_at found i).1) at here
@@ -185,14 +185,14 @@ module _ (m : PointedType) (is : IsPointed m) (at end : ℕ) (found : List (ℕ 
   arrow_there : (i j : ℕ) (a : Arrow) → i < length found → j < length found → IsArrow m.space a → op m.space a (pair_at found i).0 ≡ Some (pair_at found j).0
       → op m.space (relabelled m.relabel a) (pair_at found i).1 ≡ Some (pair_at found j).1
   arrow_there i j a low lower fits leads =
-      let h = by_first (numbered m.space.cartan.rank (number m (walk_at s.walks i)) (a ∷ [])) (op m.space a (pair_at found i).0) (op m.space (relabelled m.relabel a) (pair_at found i).1)
+      let h = by_first (number_from m.space.cartan.rank (number m (walk_at s.walks i)) (a ∷ [])) (op m.space a (pair_at found i).0) (op m.space (relabelled m.relabel a) (pair_at found i).1)
       (pair_at found j).0 (arrow_on i a low fits) leads in
       h.3 ∙ ap Some (one_second h.0 j h.1 lower h.2)
 
   arrow_here : (i j : ℕ) (a : Arrow) → i < length found → j < length found → IsArrow m.space a
       → op m.space (relabelled m.relabel a) (pair_at found i).1 ≡ Some (pair_at found j).1 → op m.space a (pair_at found i).0 ≡ Some (pair_at found j).0
   arrow_here i j a low lower fits leads =
-      let h = by_second (numbered m.space.cartan.rank (number m (walk_at s.walks i)) (a ∷ [])) (op m.space a (pair_at found i).0) (op m.space (relabelled m.relabel a) (pair_at found i).1)
+      let h = by_second (number_from m.space.cartan.rank (number m (walk_at s.walks i)) (a ∷ [])) (op m.space a (pair_at found i).0) (op m.space (relabelled m.relabel a) (pair_at found i).1)
       (pair_at found j).1 (arrow_on i a low fits) leads in
       h.3 ∙ ap Some (one_first h.0 j h.1 lower h.2)
 

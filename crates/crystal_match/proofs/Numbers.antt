@@ -9,7 +9,7 @@ use Rattle.tensor_words.specs.Codes.{is_before}
 use Rattle.tensor_words.specs.Operators.{IsArrow}
 use Rattle.tensor_words.specs.Reach.{IsPath}
 use Rattle.signature_rule.specs.ArrowOrder.{arrow_place}
-use Rattle.crystal_match.specs.Search.{numbered}
+use Rattle.crystal_match.specs.Search.{number_from}
 
 -- an arrow's place is below twice the rank
 pub place_below : (s : SpaceType) (a : Arrow) → IsArrow s a → arrow_place s.cartan.rank a < s.cartan.rank + s.cartan.rank
@@ -42,16 +42,16 @@ pub digit_most : (b i j d : ℕ) → i ≤ j → i * b + d ≤ j * b + d
 digit_most b i j d most = let up : i * b ≤ j * b = mul-le-mul_right b most in omega (arith, up)
 
 -- an arrow more at the end
-pub numbered-push : (r k : ℕ) (path : List Arrow) (a : Arrow) → numbered r k (path ++ a ∷ []) ≡ numbered r k path * (r + r) + arrow_place r a
+pub numbered-push : (r k : ℕ) (path : List Arrow) (a : Arrow) → number_from r k (path ++ a ∷ []) ≡ number_from r k path * (r + r) + arrow_place r a
 numbered-push r k [] a = refl
 numbered-push r k (b ∷ path) a = numbered-push r (k * (r + r) + arrow_place r b) path a
 
-pub numbered_most : (r i j : ℕ) (path : List Arrow) → i ≤ j → numbered r i path ≤ numbered r j path
+pub numbered_most : (r i j : ℕ) (path : List Arrow) → i ≤ j → number_from r i path ≤ number_from r j path
 numbered_most r i j [] most = most
 numbered_most r i j (a ∷ path) most =
     numbered_most r (i * (r + r) + arrow_place r a) (j * (r + r) + arrow_place r a) path (digit_most (r + r) i j (arrow_place r a) most)
 
-pub numbered_grows : (r k : ℕ) (path : List Arrow) → 1 ≤ r → k ≤ numbered r k path
+pub numbered_grows : (r k : ℕ) (path : List Arrow) → 1 ≤ r → k ≤ number_from r k path
 numbered_grows r k [] some = omega arith
 numbered_grows r k (a ∷ path) some =
     let up : k * 1 ≤ k * (r + r) = mul-le-mul_left k (omega arith) in
@@ -59,7 +59,7 @@ numbered_grows r k (a ∷ path) some =
     omega (arith, up, rest)
 
 numbered_less : (s : SpaceType) (i j : ℕ) (p q : List Arrow) → IsPath s p → length p ≡ length q → i < j
-    → numbered s.cartan.rank i p < numbered s.cartan.rank j q
+    → number_from s.cartan.rank i p < number_from s.cartan.rank j q
 numbered_less s i j [] [] arrows same less = less
 numbered_less s i j [] (b ∷ q) arrows same less = absurd (omega arith)
 numbered_less s i j (a ∷ p) [] arrows same less = absurd (omega arith)
@@ -85,7 +85,7 @@ first_or_rest d e rest h = elim (cases_lt d e) [
 
 -- of two lists of one length the lexicographically lesser has the lesser number
 pub numbered_before : (s : SpaceType) (k : ℕ) (p q : List Arrow) → IsPath s p → length p ≡ length q
-    → IsTrue (is_before (map (arrow_place s.cartan.rank) p) (map (arrow_place s.cartan.rank) q)) → numbered s.cartan.rank k p < numbered s.cartan.rank k q
+    → IsTrue (is_before (map (arrow_place s.cartan.rank) p) (map (arrow_place s.cartan.rank) q)) → number_from s.cartan.rank k p < number_from s.cartan.rank k q
 numbered_before s k [] q arrows same before = absurd (not_true before)
 numbered_before s k (a ∷ p) [] arrows same before = absurd (not_true before)
 numbered_before s k (a ∷ p) (b ∷ q) arrows same before =
@@ -98,7 +98,7 @@ numbered_before s k (a ∷ p) (b ∷ q) arrows same before =
 
 -- the shorter list has the lesser number
 pub numbered_shorter : (s : SpaceType) (i j : ℕ) (p q : List Arrow) → 1 ≤ s.cartan.rank → IsPath s p → length p < length q → 1 ≤ j → i < j + j
-    → numbered s.cartan.rank i p < numbered s.cartan.rank j q
+    → number_from s.cartan.rank i p < number_from s.cartan.rank j q
 numbered_shorter s i j p [] some arrows short one less = absurd (omega arith)
 numbered_shorter s i j [] (b ∷ q) some arrows short one less =
     let r = s.cartan.rank in
@@ -114,12 +114,12 @@ numbered_shorter s i j (a ∷ p) (b ∷ q) some arrows short one less =
     (omega (arith, more)) (omega (arith, up, low))
 
 -- a list with a number up to another's is no longer, and where it is as long not behind it
-pub no_longer : (s : SpaceType) (p q : List Arrow) → 1 ≤ s.cartan.rank → IsPath s q → numbered s.cartan.rank 1 p ≤ numbered s.cartan.rank 1 q → length p ≤ length q
+pub no_longer : (s : SpaceType) (p q : List Arrow) → 1 ≤ s.cartan.rank → IsPath s q → number_from s.cartan.rank 1 p ≤ number_from s.cartan.rank 1 q → length p ≤ length q
 no_longer s p q some arrows most = elim (cases_lt (length q) (length p)) [
   | inl less ↦ absurd (omega (arith, most, numbered_shorter s 1 1 q p some arrows less (omega arith) (omega arith)))
   | inr over ↦ over
 ]
 
-pub not_behind : (s : SpaceType) (p q : List Arrow) → IsPath s q → numbered s.cartan.rank 1 p ≤ numbered s.cartan.rank 1 q → length q ≡ length p
+pub not_behind : (s : SpaceType) (p q : List Arrow) → IsPath s q → number_from s.cartan.rank 1 p ≤ number_from s.cartan.rank 1 q → length q ≡ length p
     → IsTrue (is_before (map (arrow_place s.cartan.rank) q) (map (arrow_place s.cartan.rank) p)) → ⊥
 not_behind s p q arrows most same before = omega (arith, most, numbered_before s 1 q p arrows same before)

@@ -4,12 +4,12 @@ use Rattle.std.proofs.lemmas.Bool.{cases_lt, cases_eq}
 use Rattle.crystal_cartan.specs.declared.types.Arrow.{Arrow}
 use Rattle.tensor_words.specs.Operators.{IsArrow}
 use Rattle.tensor_words.specs.Reach.{IsPath, walk}
-use Rattle.crystal_match.specs.declared.search.Origin.{Origin}
+use Rattle.crystal_match.specs.declared.search.PairOrigin.{PairOrigin}
 use Rattle.crystal_match.specs.Relabelling.{relabelled}
 use Rattle.crystal_match.specs.Listings.{pair_at}
 use Rattle.crystal_match.specs.Telling.{PointedType, AreEndsApart, Tells, first_end, second_end}
 use Rattle.signature_rule.specs.ArrowOrder.{arrow_place}
-use Rattle.crystal_match.specs.Search.{walk_at, numbered, number, next_number, IsSettled, IsTried, IsSearch}
+use Rattle.crystal_match.specs.Search.{walk_at, number_from, number, step_number, IsSettled, IsTried, IsSearch}
 use Rattle.crystal_match.proofs.Numbers.{digit_less, digit_most, numbered_grows}
 use Rattle.crystal_match.proofs.Back.{walk-nil, walk-none, walk-cons}
 
@@ -26,7 +26,7 @@ followed_or_not n at j place = elim (cases_lt j at) [
   ]
 ]
 
-module _ (m : PointedType) (n at end : ℕ) (found : List (ℕ × ℕ)) (origins : List Origin) (s : IsSearch m n at end found origins) where
+module _ (m : PointedType) (n at end : ℕ) (found : List (ℕ × ℕ)) (origins : List PairOrigin) (s : IsSearch m n at end found origins) where
   abbrev rank : ℕ
   rank = m.space.cartan.rank
 
@@ -37,14 +37,14 @@ module _ (m : PointedType) (n at end : ℕ) (found : List (ℕ × ℕ)) (origins
     pub within : place < length found
     pub fits : IsArrow m.space arrow
     pub later : (at < place) ⊎ ((place ≡ at) × (n ≤ arrow_place m.space.cartan.rank arrow))
-    pub early : next_number m s.walks place (arrow_place m.space.cartan.rank arrow) ≤ k
+    pub early : step_number m s.walks place (arrow_place m.space.cartan.rank arrow) ≤ k
 
   -- a list of arrows from a pair that was found leads to none or to a pair that was found, unless the search has not
   -- come so far
   pub settles : 1 ≤ m.space.cartan.rank → (path : List Arrow) (j k : ℕ) → IsPath m.space path → j < length found → number m (walk_at s.walks j) ≤ k
-      → IsSettled m found s.walks (numbered m.space.cartan.rank k path) (walk m.space path (pair_at found j).0)
+      → IsSettled m found s.walks (number_from m.space.cartan.rank k path) (walk m.space path (pair_at found j).0)
       (walk m.space (map (relabelled m.relabel) path) (pair_at found j).1)
-      ⊎ IsOpen (numbered m.space.cartan.rank k path)
+      ⊎ IsOpen (number_from m.space.cartan.rank k path)
   settles some [] j k arrows within most = inl (inr (record {
     place = j;
     within = within;
@@ -69,7 +69,7 @@ module _ (m : PointedType) (n at end : ℕ) (found : List (ℕ × ℕ)) (origins
       ]
 
   -- what is not followed yet comes no earlier than the next arrow
-  pub open_late : (k : ℕ) → n < rank + rank → IsOpen k → next_number m s.walks at n ≤ k
+  pub open_late : (k : ℕ) → n < rank + rank → IsOpen k → step_number m s.walks at n ≤ k
   open_late k below left = elim left.later [
     | inl after ↦
         let up = digit_less (rank + rank) (number m (walk_at s.walks at)) (number m (walk_at s.walks left.place)) n (arrow_place rank left.arrow) (s.rising at left.place after left.within) below in

@@ -8,12 +8,12 @@ use Rattle.tensor_words.specs.Spaces.{size}
 use Rattle.tensor_words.specs.Operators.{IsArrow, op}
 use Rattle.tensor_words.specs.Reach.{walk}
 use Rattle.signature_rule.proofs.Paths.{path-push}
-use Rattle.crystal_match.specs.declared.search.Origin.{Origin}
+use Rattle.crystal_match.specs.declared.search.PairOrigin.{PairOrigin}
 use Rattle.crystal_match.specs.Relabelling.{relabelled}
 use Rattle.crystal_match.specs.Listings.{pair_at, no_arrow}
 use Rattle.crystal_match.specs.Telling.{PointedType, IsPointed, AreEndsApart}
 use Rattle.signature_rule.specs.ArrowOrder.{arrow_place}
-use Rattle.crystal_match.specs.Search.{IsEntered, walk_at, origin_at, AreWalks, number, next_number, Leads, IsSettled, IsTried, IsSearch, FollowsPair}
+use Rattle.crystal_match.specs.Search.{IsEntered, walk_at, origin_at, AreWalks, number, step_number, Leads, IsSettled, IsTried, IsSearch, FollowsPair}
 use Rattle.crystal_match.proofs.Numbers.{place_below, same_arrow, numbered-push}
 use Rattle.crystal_match.proofs.Relabels.{rank_some, relabelled_path}
 use Rattle.crystal_match.proofs.Back.{walk-nil, walk-push, walk_below, map-push}
@@ -65,7 +65,7 @@ begun m is = record {
     not_followed j place (inl low) = omega (arith, low)
     not_followed j place (inr h) = omega (arith, h.1)
 
-module _ (m : PointedType) (at end : ℕ) (found : List (ℕ × ℕ)) (origins : List Origin) where
+module _ (m : PointedType) (at end : ℕ) (found : List (ℕ × ℕ)) (origins : List PairOrigin) where
   abbrev rank : ℕ
   rank = m.space.cartan.rank
 
@@ -128,7 +128,7 @@ module _ (m : PointedType) (at end : ℕ) (found : List (ℕ × ℕ)) (origins :
     there = omega (arith, low, s.within)
 
     -- the arrow leads to none, or to a pair that was found
-    stay : IsSettled m found s.walks (next_number m s.walks at n) (op m.space a (pair_at found at).0) (op m.space (relabelled m.relabel a) (pair_at found at).1)
+    stay : IsSettled m found s.walks (step_number m s.walks at n) (op m.space a (pair_at found at).0) (op m.space (relabelled m.relabel a) (pair_at found at).1)
         → IsSearch m (n + 1) at end found origins
     stay ends = record {
       walks = s.walks;
@@ -149,7 +149,7 @@ module _ (m : PointedType) (at end : ℕ) (found : List (ℕ × ℕ)) (origins :
     }
       where
         settled : (j : ℕ) (b : Arrow) → j < length found → IsArrow m.space b → IsTried (n + 1) at j (arrow_place m.space.cartan.rank b)
-            → IsSettled m found s.walks (next_number m s.walks j (arrow_place m.space.cartan.rank b)) (op m.space b (pair_at found j).0) (op m.space (relabelled m.relabel b) (pair_at found j).1)
+            → IsSettled m found s.walks (step_number m s.walks j (arrow_place m.space.cartan.rank b)) (op m.space b (pair_at found j).0) (op m.space (relabelled m.relabel b) (pair_at found j).1)
         settled j b within is followed = elim (was_followed n at j (arrow_place m.space.cartan.rank b) followed) [
           | inl old ↦ s.settled j b within is old
           | inr new ↦
@@ -160,7 +160,7 @@ module _ (m : PointedType) (at end : ℕ) (found : List (ℕ × ℕ)) (origins :
     abbrev own : List Arrow
     own = walk_at s.walks at ++ a ∷ []
 
-    abbrev origin : Origin
+    abbrev origin : PairOrigin
     origin = record { from = at; arrow = a }
 
     abbrev longer_walks : List (List Arrow)
@@ -206,10 +206,10 @@ module _ (m : PointedType) (at end : ℕ) (found : List (ℕ × ℕ)) (origins :
         new_pair : (j : ℕ) → j ≡ length found → pair_at (found ++ (x, y) ∷ []) j ≡ (x, y)
         new_pair j is = get_or_push found (x, y) (0, 0) j (sym is)
 
-        own_number : number m own ≡ next_number m s.walks at n
+        own_number : number m own ≡ step_number m s.walks at n
         own_number = numbered-push rank 1 (walk_at s.walks at) a ∙ ap (λ d. number m (walk_at s.walks at) * (rank + rank) + d) place
 
-        old_next : (j d : ℕ) → j < length found → next_number m longer_walks j d ≡ next_number m s.walks j d
+        old_next : (j d : ℕ) → j < length found → step_number m longer_walks j d ≡ step_number m s.walks j d
         old_next j d within = ap (λ (p : List Arrow). number m p * (rank + rank) + d) (old_walk j within)
 
         own_leads : Leads m own (x, y)
@@ -242,7 +242,7 @@ module _ (m : PointedType) (at end : ℕ) (found : List (ℕ × ℕ)) (origins :
           | inr new ↦ rw (old_walk i (omega (arith, less, new)), new_walk j new, own_number) (s.early i there (omega (arith, less, new)))
         ]
 
-        early : (j : ℕ) → at < length (found ++ (x, y) ∷ []) → j < length (found ++ (x, y) ∷ []) → number m (walk_at longer_walks j) < next_number m longer_walks at (n + 1)
+        early : (j : ℕ) → at < length (found ++ (x, y) ∷ []) → j < length (found ++ (x, y) ∷ []) → number m (walk_at longer_walks j) < step_number m longer_walks at (n + 1)
         early j here within =
             let next = old_next at (n + 1) there in
             elim (last_or found (x, y) j within) [
@@ -260,7 +260,7 @@ module _ (m : PointedType) (at end : ℕ) (found : List (ℕ × ℕ)) (origins :
           early = rw (old_walk f.place f.within) f.early;
         })
 
-        own_settled : IsSettled m (found ++ (x, y) ∷ []) longer_walks (next_number m s.walks at n) (op m.space a (pair_at found at).0) (op m.space (relabelled m.relabel a) (pair_at found at).1)
+        own_settled : IsSettled m (found ++ (x, y) ∷ []) longer_walks (step_number m s.walks at n) (op m.space a (pair_at found at).0) (op m.space (relabelled m.relabel a) (pair_at found at).1)
         own_settled = inr (record {
           place = length found;
           within = omega (arith, more);
@@ -270,13 +270,13 @@ module _ (m : PointedType) (at end : ℕ) (found : List (ℕ × ℕ)) (origins :
         })
 
         settled : (j : ℕ) (b : Arrow) → j < length (found ++ (x, y) ∷ []) → IsArrow m.space b → IsTried (n + 1) at j (arrow_place m.space.cartan.rank b)
-            → IsSettled m (found ++ (x, y) ∷ []) longer_walks (next_number m longer_walks j (arrow_place m.space.cartan.rank b)) (op m.space b (pair_at (found ++ (x, y) ∷ []) j).0) (op m.space (relabelled m.relabel b) (pair_at (found ++ (x, y) ∷ []) j).1)
+            → IsSettled m (found ++ (x, y) ∷ []) longer_walks (step_number m longer_walks j (arrow_place m.space.cartan.rank b)) (op m.space b (pair_at (found ++ (x, y) ∷ []) j).0) (op m.space (relabelled m.relabel b) (pair_at (found ++ (x, y) ∷ []) j).1)
         settled j b within is followed =
             elim (was_followed n at j (arrow_place m.space.cartan.rank b) followed) [
               | inl old ↦
                   let before : j < length found = begun_before old in
                   rw (old_next j (arrow_place m.space.cartan.rank b) before, old_pair j before)
-                  (lift (next_number m s.walks j (arrow_place m.space.cartan.rank b)) (op m.space b (pair_at found j).0) (op m.space (relabelled m.relabel b) (pair_at found j).1) (s.settled j b before is old))
+                  (lift (step_number m s.walks j (arrow_place m.space.cartan.rank b)) (op m.space b (pair_at found j).0) (op m.space (relabelled m.relabel b) (pair_at found j).1) (s.settled j b before is old))
               | inr new ↦
                   let same : b ≡ a = same_arrow m.space b a is fits (new.1 ∙ sym place) in
                   rw (same, new.0, place, old_next at n there, old_pair at there) own_settled
@@ -324,7 +324,7 @@ module _ (m : PointedType) (at end : ℕ) (found : List (ℕ × ℕ)) (origins :
     place_of p (j, within, is) = (j, within, get_or_default found j (0, 0) p within ∙ is)
 
     -- one more arrow is followed
-    pub follow_on : (first second : Option ℕ) (new : List (ℕ × ℕ)) (later : List Origin) → op m.space a (pair_at found at).0 ≡ first
+    pub follow_on : (first second : Option ℕ) (new : List (ℕ × ℕ)) (later : List PairOrigin) → op m.space a (pair_at found at).0 ≡ first
         → op m.space (relabelled m.relabel a) (pair_at found at).1 ≡ second → (AreEndsApart m first second → ⊥)
         → FollowsPair at a first second found origins new later → IsSearch m (n + 1) at end new later
     follow_on None None new later is_x is_y alike same = rw (same.0, same.1) (stay (inl (is_x, is_y)))
@@ -348,7 +348,7 @@ entered_first pair old new true empty is = is ∙ ap (λ (xs : List (ℕ × ℕ)
 entered_first pair old new false empty is = let there = rw empty at is.1 in absurd (omega (arith, there.1))
 
 -- the codes of a pair that was found are words'
-pub pair_below : (m : PointedType) → IsPointed m → (n at end : ℕ) (found : List (ℕ × ℕ)) (origins : List Origin) → IsSearch m n at end found origins
+pub pair_below : (m : PointedType) → IsPointed m → (n at end : ℕ) (found : List (ℕ × ℕ)) (origins : List PairOrigin) → IsSearch m n at end found origins
     → (j : ℕ) → j < length found → ((pair_at found j).0 < size m.space) × ((pair_at found j).1 < size m.space)
 pair_below m is n at end found origins s j low =
     let leads = s.leads j low in (
@@ -357,7 +357,7 @@ pair_below m is n at end found origins s j low =
     )
 
 -- what was found stays where it is
-pub pair_stays : (at : ℕ) (a : Arrow) (first second : Option ℕ) (found : List (ℕ × ℕ)) (origins : List Origin) (new : List (ℕ × ℕ)) (later : List Origin)
+pub pair_stays : (at : ℕ) (a : Arrow) (first second : Option ℕ) (found : List (ℕ × ℕ)) (origins : List PairOrigin) (new : List (ℕ × ℕ)) (later : List PairOrigin)
     → FollowsPair at a first second found origins new later → at < length found → pair_at new at ≡ pair_at found at
 pair_stays at a None second found origins new later same low = ap (λ (xs : List (ℕ × ℕ)). pair_at xs at) same.0
 pair_stays at a (Some x) None found origins new later same low = ap (λ (xs : List (ℕ × ℕ)). pair_at xs at) same.0
@@ -366,7 +366,7 @@ pair_stays at a (Some x) (Some y) found origins new later (inr fresh) low =
     ap (λ (xs : List (ℕ × ℕ)). pair_at xs at) fresh.0 ∙ get_or_append_left found ((x, y) ∷ []) (0, 0) at low
 
 -- one more arrow of the pair at `at` is followed
-pub expand_on : (m both : PointedType) (n at end rank : ℕ) (pair : ℕ × ℕ) (found : List (ℕ × ℕ)) (origins : List Origin) (new : List (ℕ × ℕ)) (later : List Origin)
+pub expand_on : (m both : PointedType) (n at end rank : ℕ) (pair : ℕ × ℕ) (found : List (ℕ × ℕ)) (origins : List PairOrigin) (new : List (ℕ × ℕ)) (later : List PairOrigin)
     (a : Arrow) (first second : Option ℕ) → both ≡ m → rank ≡ m.space.cartan.rank → IsSearch m n at end found origins → at < end → pair ≡ pair_at found at
     → 1 ≤ a.index → a.index ≤ rank → arrow_place rank a ≡ n → first ≡ op m.space a pair.0 → second ≡ op m.space (relabelled m.relabel a) pair.1
     → (AreEndsApart both first second → ⊥) → FollowsPair at a first second found origins new later → IsSearch both (n + 1) at end new later

@@ -3,7 +3,7 @@ use Rattle.std.proofs.Common.{◌≡◌, refl, true, false, [], ◌∷◌}
 use Rattle.crystal_cartan.specs.declared.types.Kind.TheVariants.{A, C, D}
 use Rattle.crystal_match.specs.Relabelling.{starred, star_index, relabelled}
 use Rattle.signature_rule.specs.ArrowOrder.{arrow_place}
-use Rattle.crystal_match.specs.Search.{numbered}
+use Rattle.crystal_match.specs.Search.{number_from}
 
 star_of_a3 : star_index (record { kind = A; rank = 3 }) 1 ≡ 3
 star_of_a3 = refl
@@ -32,5 +32,5 @@ place_of_e1 : arrow_place 2 (record { down = false; index = 1 }) ≡ 2
 place_of_e1 = refl
 
 -- f_1 and then f_2, to the base 4 behind a 1
-number_of_f1_f2 : numbered 2 1 (record { down = true; index = 1 } ∷ record { down = true; index = 2 } ∷ []) ≡ 17
+number_of_f1_f2 : number_from 2 1 (record { down = true; index = 1 } ∷ record { down = true; index = 2 } ∷ []) ≡ 17
 number_of_f1_f2 = refl

@@ -36,14 +36,14 @@ IsVerdict m (Same pairs) = AreSame m pairs
 IsVerdict m (Differs walk) = IsFirstTelling m walk
 
 -- a list of arrows counts where no list that is first to tell the marks apart is as short
-pub record Counts (m : PointedType) (path : List Arrow) : Type 0 where
+pub record IsCountedPath (m : PointedType) (path : List Arrow) : Type 0 where
   pub arrows : IsPath m.space path
   pub shorter : (first : List Arrow) → IsFirstTelling m first → length path < length first
 
 -- a list that counts reaches the pair: both its walks are words, and the pair is their two ends
 pub record IsCountedPair (m : PointedType) (pair : ℕ × ℕ) : Type 0 where
   pub path : List Arrow
-  pub counts : Counts m path
+  pub counts : IsCountedPath m path
   pub first : first_end m path ≡ Some pair.0
   pub second : second_end m path ≡ Some pair.1
 

@@ -4,7 +4,7 @@ use Rattle.std.specs.List.{IsDistinct}
 use Rattle.crystal_cartan.specs.declared.types.Arrow.{Arrow}
 use Rattle.tensor_words.specs.Operators.{IsArrow, op}
 use Rattle.tensor_words.specs.Reach.{IsPath}
-use Rattle.crystal_match.specs.declared.search.Origin.{Origin}
+use Rattle.crystal_match.specs.declared.search.PairOrigin.{PairOrigin}
 use Rattle.crystal_match.specs.declared.search.Search.{Search}
 use Rattle.crystal_match.specs.declared.search.SearchEnd.{SearchEnd}
 use Rattle.crystal_match.specs.declared.search.SearchEnd.TheVariants.{Closed, Told, TooMany}
@@ -22,12 +22,12 @@ IsEntered pair old false new = (new ≡ old) × Contains old pair
 abbrev pub walk_at : List (List Arrow) → ℕ → List Arrow
 walk_at walks j = slice_index_or walks j []
 
-abbrev pub origin_at : List Origin → ℕ → Origin
+abbrev pub origin_at : List PairOrigin → ℕ → PairOrigin
 origin_at origins j = slice_index_or origins j (record { from = 0; arrow = no_arrow })
 
 -- the lists of arrows that are kept by origins: none for the first pair, and for each later one the list kept for the
 -- pair that it comes from, and then its arrow
-pub record AreWalks (origins : List Origin) (walks : List (List Arrow)) : Type 0 where
+pub record AreWalks (origins : List PairOrigin) (walks : List (List Arrow)) : Type 0 where
   pub count : length walks ≡ length origins + 1
   pub first : walk_at walks 0 ≡ []
   pub from : (j : ℕ) → j < length origins → (origin_at origins j).from ≤ j
@@ -35,16 +35,16 @@ pub record AreWalks (origins : List Origin) (walks : List (List Arrow)) : Type 0
 
 -- lists of arrows as numbers: the places of their arrows read to the base of twice the rank, behind a first digit k. With
 -- the first digit 1 the shorter list has the lesser number, and of two lists of one length the lexicographically lesser one
-abbrev pub numbered : ℕ → ℕ → List Arrow → ℕ
-numbered rank k [] = k
-numbered rank k (a ∷ path) = numbered rank (k * (rank + rank) + arrow_place rank a) path
+abbrev pub number_from : ℕ → ℕ → List Arrow → ℕ
+number_from rank k [] = k
+number_from rank k (a ∷ path) = number_from rank (k * (rank + rank) + arrow_place rank a) path
 
 abbrev pub number : PointedType → List Arrow → ℕ
-number m path = numbered m.space.cartan.rank 1 path
+number m path = number_from m.space.cartan.rank 1 path
 
 -- the number of the list that is kept for a pair, and then an arrow with this place
-abbrev pub next_number : PointedType → List (List Arrow) → ℕ → ℕ → ℕ
-next_number m walks j place = number m (walk_at walks j) * (m.space.cartan.rank + m.space.cartan.rank) + place
+abbrev pub step_number : PointedType → List (List Arrow) → ℕ → ℕ → ℕ
+step_number m walks j place = number m (walk_at walks j) * (m.space.cartan.rank + m.space.cartan.rank) + place
 
 -- a list of arrows leads from the two marks to a pair
 pub record Leads (m : PointedType) (path : List Arrow) (pair : ℕ × ℕ) : Type 0 where
@@ -69,7 +69,7 @@ abbrev pub IsTried : ℕ → ℕ → ℕ → ℕ → Type 0
 IsTried n at j place = (j < at) ⊎ ((j ≡ at) × (place < n))
 
 -- a search that has not told the marks apart yet
-pub record IsSearch (m : PointedType) (n at end : ℕ) (found : List (ℕ × ℕ)) (origins : List Origin) : Type 0 where
+pub record IsSearch (m : PointedType) (n at end : ℕ) (found : List (ℕ × ℕ)) (origins : List PairOrigin) : Type 0 where
   pub walks : List (List Arrow)
   pub are_walks : AreWalks origins walks
   pub count : length found ≡ length origins + 1
@@ -80,10 +80,10 @@ pub record IsSearch (m : PointedType) (n at end : ℕ) (found : List (ℕ × ℕ
   pub untold : (j : ℕ) → j < length found → AreEndsApart m (Some (pair_at found j).0) (Some (pair_at found j).1) → ⊥
   -- the kept lists rise, and all come before the next one to be tried
   pub rising : (i j : ℕ) → i < j → j < length found → number m (walk_at walks i) < number m (walk_at walks j)
-  pub early : (j : ℕ) → at < length found → j < length found → number m (walk_at walks j) < next_number m walks at n
+  pub early : (j : ℕ) → at < length found → j < length found → number m (walk_at walks j) < step_number m walks at n
   pub settled :
       (j : ℕ) (a : Arrow) → j < length found → IsArrow m.space a → IsTried n at j (arrow_place m.space.cartan.rank a) →
-      IsSettled m found walks (next_number m walks j (arrow_place m.space.cartan.rank a)) (op m.space a (pair_at found j).0) (op m.space (relabelled m.relabel a) (pair_at found j).1)
+      IsSettled m found walks (step_number m walks j (arrow_place m.space.cartan.rank a)) (op m.space a (pair_at found j).0) (op m.space (relabelled m.relabel a) (pair_at found j).1)
   -- the pairs from `at` to `end` are those that are first reached by lists of one length; those before are reached by
   -- shorter ones, those behind by lists with one arrow more
   pub level : ℕ
@@ -95,7 +95,7 @@ abbrev pub IsSearching : PointedType → ℕ → Search → Type 0
 IsSearching m n s = IsSearch m n s.at s.end s.found s.origins.items
 
 -- what following an arrow from the pair at `at` to these ends makes of the lists
-abbrev pub FollowsPair : ℕ → Arrow → Option ℕ → Option ℕ → List (ℕ × ℕ) → List Origin → List (ℕ × ℕ) → List Origin → Type 0
+abbrev pub FollowsPair : ℕ → Arrow → Option ℕ → Option ℕ → List (ℕ × ℕ) → List PairOrigin → List (ℕ × ℕ) → List PairOrigin → Type 0
 FollowsPair at a (Some x) (Some y) found origins new later =
     ((new ≡ found) × (later ≡ origins) × Contains found (x, y))
     ⊎ ((new ≡ found ++ (x, y) ∷ []) × (later ≡ origins ++ (record { from = at; arrow = a }) ∷ []))
@@ -116,6 +116,6 @@ IsSearchEnded m limit (Told a) s = IsTold m a s × (s.end ≤ limit)
 IsSearchEnded m limit TooMany s = IsSearching m 0 s × (s.at ≡ s.end) × (s.at < length s.found) × (limit < length s.found) × IsDistinct pair_eq s.found
 
 -- some lists of arrows are kept by the origins
-pub record HasWalks (origins : List Origin) : Type 0 where
+pub record HasWalks (origins : List PairOrigin) : Type 0 where
   pub walks : List (List Arrow)
   pub are : AreWalks origins walks

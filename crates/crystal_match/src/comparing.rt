@@ -4,8 +4,8 @@ ghost use Rattle.tensor_words.specs.Spaces.{size};
 ghost use Rattle.crystal_match.specs.Telling.{pointed};
 ghost use Rattle.crystal_match.specs.Matching.{IsVerdict, PairsOutnumber};
 
-use crate::both::Both;
 use crate::listings::{Arrows, Pairs};
+use crate::marked::MarkedSpace;
 use crate::relabelling::Relabel;
 use crate::search::{Search, SearchEnd};
 use std::alloc::{AllocError, Global};
@@ -68,7 +68,7 @@ fn compared(
     ensures { let m = pointed space.now marks.0 marks.1 relabel in
         IfOk result (λ found. MatchOption found (PairsOutnumber m limit) (λ verdict. IsVerdict m verdict × (PairsOutnumber m limit → ⊥))) }
 {
-    let mut both = Both::new(alloc, space, marks, relabel)?;
+    let mut both = MarkedSpace::new(alloc, space, marks, relabel)?;
     let mut search = Search::new(alloc, &both)?;
     match search.run(&mut both, limit)? {
         SearchEnd::Closed => Ok(Some(Verdict::Same {

@@ -10,13 +10,13 @@
 //!
 //! **Stands on** tensor_words for spaces and walks, and on signature_rule for the operators of a word by one pass. Read
 //! `comparing` first, then `search`, which goes breadth first over pairs of codes (`found`) that the operators on two
-//! marked words (`both`) lead to.
+//! marked words (`marked`) lead to.
 #![tactic(auto)]
 
-mod both;
 mod comparing;
 mod found;
 mod listings;
+mod marked;
 mod relabelling;
 mod search;
 

@@ -9,16 +9,16 @@ ghost use Rattle.crystal_match.specs.Telling.{IsPointed};
 ghost use Rattle.signature_rule.specs.ArrowOrder.{arrow_place};
 ghost use Rattle.crystal_match.specs.Search.{IsSearching, IsTold, IsSearchEnded, FollowsPair, HasWalks, AreWalks, walk_at};
 
-use crate::both::{Both, Ends};
 use crate::found::FoundPairs;
 use crate::listings::{Arrows, Pairs};
+use crate::marked::{MarkedSpace, PairEnds};
 use crystal_cartan::Arrow;
 use signature_rule::arrow_at;
 use std::alloc::{AllocError, Global};
 
 /// How a pair was reached first: from the pair at this place, by this arrow.
 #[derive(Clone, Copy, Debug)]
-pub(crate) struct Origin {
+pub(crate) struct PairOrigin {
     pub(crate) from: usize,
     pub(crate) arrow: Arrow,
 }
@@ -29,7 +29,7 @@ pub(crate) struct Origin {
 pub(crate) struct Search {
     pub(crate) found: FoundPairs,
     /// The origin of each pair but the first.
-    pub(crate) origins: Vec<Origin>,
+    pub(crate) origins: Vec<PairOrigin>,
     pub(crate) at: usize,
     pub(crate) end: usize,
 }
@@ -47,7 +47,7 @@ pub(crate) enum SearchEnd {
 
 impl Search {
     /// Only the pair of the marks is found.
-    pub(crate) fn new(alloc: Global, both: &Both) -> Result<Search, AllocError>
+    pub(crate) fn new(alloc: Global, both: &MarkedSpace) -> Result<Search, AllocError>
         ensures begun { IfOk result (λ s. IsSearching both.now 0 s) }
         ensures end { IfOk result (λ s. s.end ≡ 0) }
         ensures pointed { OnOk result (IsPointed both.now) }
@@ -63,7 +63,11 @@ impl Search {
     }
 
     /// Searches to the end.
-    pub(crate) fn run(&mut self, both: &mut Both, limit: u32) -> Result<SearchEnd, AllocError>
+    pub(crate) fn run(
+        &mut self,
+        both: &mut MarkedSpace,
+        limit: u32,
+    ) -> Result<SearchEnd, AllocError>
         requires begun { IsSearching both.old 0 self.old }
         requires end { self.old.end ≡ 0 }
         ensures { IfOk result (λ ending. IsSearchEnded both.old limit ending self.new) }
@@ -83,7 +87,7 @@ impl Search {
     }
 
     /// Follows the arrows of the pair at `at`, up to the first that tells the marks apart.
-    fn expand(&mut self, both: &mut Both) -> Result<Option<Arrow>, AllocError>
+    fn expand(&mut self, both: &mut MarkedSpace) -> Result<Option<Arrow>, AllocError>
         requires searching { IsSearching both.old 0 self.old }
         requires at { self.old.at < self.old.end }
         ensures expanded { IfOk result (λ told. MatchOption told (IsSearching both.old 0 self.new × (self.new.at ≡ self.old.at + 1)) (λ arrow. IsTold both.old arrow self.new)) }
@@ -105,7 +109,7 @@ impl Search {
     }
 
     /// Adds the pair to which an arrow leads from the pair at `at`, where both ends are words.
-    fn follow(&mut self, arrow: Arrow, ends: Ends) -> Result<(), AllocError>
+    fn follow(&mut self, arrow: Arrow, ends: PairEnds) -> Result<(), AllocError>
         ensures follows { OnOk result (FollowsPair self.old.at arrow ends.0 ends.1 self.old.found self.old.origins.items self.new.found self.new.origins.items) }
         ensures at { self.new.at ≡ self.old.at }
         ensures end { self.new.end ≡ self.old.end }
@@ -114,7 +118,7 @@ impl Search {
             return Ok(());
         };
         if self.found.add((first, second))? {
-            self.origins.push(Origin {
+            self.origins.push(PairOrigin {
                 from: self.at,
                 arrow,
             })?;
@@ -148,7 +152,7 @@ impl Search {
 /// The list of arrows that reaches the pair at this place first, by the origins, and then this arrow.
 fn walk_to(
     alloc: Global,
-    origins: &[Origin],
+    origins: &[PairOrigin],
     place: usize,
     arrow: Arrow,
 ) -> Result<Vec<Arrow>, AllocError>

@@ -23,7 +23,7 @@ use Rattle.crystal_match.specs.declared.comparing.Verdict.{Verdict}
 use Rattle.crystal_characters.specs.Items.{items_of}
 use Rattle.command_words.specs.declared.settings.Relabelling.{Relabelling}
 use Rattle.crystal_shell.specs.Statistics.{AreReports, Reporter, statistics_text}
-use Rattle.graph_runs.specs.Runs.{Ends, Holds, IsHistory}
+use Rattle.graph_runs.specs.Runs.{EndsRun, Holds, IsHistory}
 use Rattle.graph_runs.specs.declared.run.Held.{Held}
 use Rattle.crystal_shell.proofs.Parts.{reports_told}
 use Rattle.crystal_shell.specs.Answers.{CallsForMatch, CallsForCensus, CallsForGraph, CallsForSample, census_limit, count_full, count_listed, grow_full, grow_refused, grow_whole, marked, match_few, match_full, match_refused, match_told, relabel_of, run_status, sample_full, sample_whole}
@@ -69,7 +69,7 @@ few_compares relabelling job s a few status told = compares_few relabelling job 
 -- ---- grow
 
 pub whole_grows : (reporters : List Reporter) (places : List ℕ) (job : Job) (f : FinishedType) (start : ℕ) (front : List Event) (held : Held) (told : List (List Reply)) (whole : Whole)
-    → IsHistory job.world job.starts job.scripts front told → Ends job.world front (Some f) → Holds job.world held.graph held.seat front
+    → IsHistory job.world job.starts job.scripts front told → EndsRun job.world front (Some f) → Holds job.world held.graph held.seat front
     → start ≡ slice_index job.starts 0 → whole.finished ≡ f → AreReports reporters places (items_of f) whole.reports.items → AreAnswers f start job.asks whole.asks.items
     → CallsForGraph reporters places (Taken job) Done front (Some held) (whole_text whole.finished told (reports_text whole.reports.items) (asks_text whole.finished whole.asks.items))
 whole_grows reporters places job f start front held told whole history ends holds at same reports asked =
@@ -78,7 +78,7 @@ whole_grows reporters places job f start front held told whole history ends hold
     rw (same, reports_told reporters places (items_of f) whole.reports.items reports) base
 
 pub full_grows : (reporters : List Reporter) (places : List ℕ) (job : Job) (space : SpaceType) (front : List Event) (held : Held) (told : List (List Reply))
-    → IsHistory job.world job.starts job.scripts front told → Ends job.world front None → Holds job.world held.graph held.seat front
+    → IsHistory job.world job.starts job.scripts front told → EndsRun job.world front None → Holds job.world held.graph held.seat front
     → space ≡ job.world.space → CallsForGraph reporters places (Taken job) Full front (Some held) (full_text space told)
 full_grows reporters places job space front held told history ends holds here =
     let base : CallsForGraph reporters places (Taken job) Full front (Some held) (full_text job.world.space told) =
@@ -88,7 +88,7 @@ full_grows reporters places job space front held told history ends holds here =
 -- ---- sample
 
 pub run_sampled : (number : ℕ) (job : Job) (graph : Option FinishedType) (front : List Event) (held : Held) (told : List (List Reply)) (s : Status) (t : CartanType)
-    → judge (sample number) ≡ Ok job → IsHistory job.world job.starts job.scripts front told → Ends job.world front graph → Holds job.world held.graph held.seat front
+    → judge (sample number) ≡ Ok job → IsHistory job.world job.starts job.scripts front told → EndsRun job.world front graph → Holds job.world held.graph held.seat front
     → s ≡ run_status graph → t ≡ job.world.space.cartan → CallsForSample number s front (Some held) (sample_answer number t 4 256 (sizes_line graph))
 run_sampled number job (Some f) front held told s t judged history ends holds status kind =
     let base : CallsForSample number Done front (Some held) (sample_answer number job.world.space.cartan 4 256 (graph_head f)) =

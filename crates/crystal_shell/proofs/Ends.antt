@@ -5,10 +5,11 @@ use Rattle.graph_history.specs.declared.event.Event.{Event}
 use Rattle.graph_runs.specs.declared.run.Held.{Held}
 use Rattle.command_words.specs.declared.settings.Relabelling.{Relabelling}
 use Rattle.tableau_reading.specs.Shapes.{ShapeType}
+use Rattle.job_text.specs.Jobs.{most_job_bytes}
 use Rattle.answer_text.specs.Texts.{words_refusal}
 use Rattle.crystal_shell.specs.Statistics.{Reporter, names_of}
 use Rattle.crystal_shell.specs.Heard.{asks_for_job, heard_in}
-use Rattle.crystal_shell.specs.Inputs.{IsInput, job_limit, judged_input}
+use Rattle.crystal_shell.specs.Inputs.{IsInput, judged_input}
 use Rattle.crystal_shell.specs.Answers.{CallsFor, CallsForMatch, CallsForCensus, CallsForGraph, CallsForSample, call_census, call_grow, call_match, call_refused, call_sample, status_number}
 use Rattle.crystal_shell.specs.Runs.{Called, HasRead, IsRun, IsWritten}
 use Rattle.crystal_shell.specs.declared.hearing.Heard.{Heard}
@@ -79,7 +80,7 @@ module _ {S : Type 0} (left : S → Option (List ℕ)) (faults : S → ℕ) (rep
       record {
         alone = λ _. same;
         whole = λ asked _. absurd (true≢false (sym asked ∙ none));
-        most = rw same (none_taken (job_limit + 1) (left before));
+        most = rw same (none_taken (most_job_bytes + 1) (left before));
         fault = λ f. absurd (never f);
         later = rw same (omega arith);
       }

@@ -14,7 +14,7 @@ use Rattle.job_text.proofs.Ascending.{ascending_has}
 use Rattle.session_desk.specs.declared.reply.Reply.{Reply}
 use Rattle.session_desk.specs.Texts.{IsPrintable}
 use Rattle.answer_text.specs.Answers.{ArePrintable}
-use Rattle.graph_runs.specs.Runs.{Ends, closed, spent}
+use Rattle.graph_runs.specs.Runs.{EndsRun, closed, spent}
 
 -- the graph of a world: its component list, whose words fit the cells
 pub record IsGraph (w : WorldType) (f : FinishedType) : Type 0 where
@@ -22,10 +22,10 @@ pub record IsGraph (w : WorldType) (f : FinishedType) : Type 0 where
   pub list : IsComponentList w f.codes
   pub fits : Outnumber w → ⊥
 
-pub ended_graph : (w : WorldType) (front : List Event) (f : FinishedType) → Ends w front (Some f) → IsGraph w f
+pub ended_graph : (w : WorldType) (front : List Event) (f : FinishedType) → EndsRun w front (Some f) → IsGraph w f
 ended_graph w front f (closed codes all listed list fits) = record { space = refl; list = list; fits = fits }
 
-pub ended_full : (w : WorldType) (front : List Event) → Ends w front None → Outnumber w
+pub ended_full : (w : WorldType) (front : List Event) → EndsRun w front None → Outnumber w
 ended_full w front (spent none more) = more
 
 -- the starts are roots

@@ -7,7 +7,7 @@ use Rattle.command_words.specs.declared.fault.WordsFault.TheVariants.{NoMemory}
 use Rattle.command_words.specs.declared.settings.Settings.{Settings}
 use Rattle.crystal_characters.specs.declared.items.Item.{Item}
 use Rattle.crystal_shell.specs.Statistics.{names_of}
-use Rattle.crystal_shell.specs.Heard.{heard_in, heard_of, number_of}
+use Rattle.crystal_shell.specs.Heard.{heard_in, heard_of, number_or_zero}
 use Rattle.crystal_shell.specs.declared.hearing.Heard.{Heard}
 use Rattle.crystal_shell.specs.declared.hearing.Heard.TheVariants.{Refused}
 
@@ -19,7 +19,7 @@ heard_settings words names settings heard is (inr short) = absurd (cc)
 pub heard_refusal : (words names : List (List ℕ)) (fault : WordsFault) (number : ℕ) → fault_number fault ≡ Some number
     → IsAnswer (judge_words words names) (Err fault) → Refused number ≡ heard_in words names
 heard_refusal words names fault number is (inl told) =
-    ap (λ (o : Option ℕ). Refused (number_of o)) (sym is) ∙ ap heard_of told
+    ap (λ (o : Option ℕ). Refused (number_or_zero o)) (sym is) ∙ ap heard_of told
 heard_refusal words names fault number is (inr short) =
     let gone : fault ≡ NoMemory = cc in
     let clash : Some number ≡ None = sym is ∙ ap fault_number gone in

@@ -22,7 +22,7 @@ use Rattle.answer_text.specs.Answers.{asks_text, whole_text, full_text, sample_a
 use Rattle.answer_text.specs.declared.answers.AskAnswer.{AskAnswer}
 use Rattle.crystal_shell.specs.Statistics.{Reporter, statistics_text}
 use Rattle.crystal_shell.specs.Inputs.{judged_input}
-use Rattle.graph_runs.specs.Runs.{Ends, Holds, IsHistory}
+use Rattle.graph_runs.specs.Runs.{EndsRun, Holds, IsHistory}
 use Rattle.graph_runs.specs.declared.run.Held.{Held}
 use Rattle.crystal_shell.specs.declared.hearing.Heard.{Heard}
 use Rattle.crystal_shell.specs.declared.hearing.Heard.TheVariants as heard
@@ -44,7 +44,7 @@ status_number Full = 3
 -- word found no cell, and it is that of the held seat
 pub record IsRunOf (job : Job) (graph : Option FinishedType) (front : List Event) (held : Held) (told : List (List Reply)) : Type 0 where
   pub history : IsHistory job.world job.starts job.scripts front told
-  pub ends : Ends job.world front graph
+  pub ends : EndsRun job.world front graph
   pub holds : Holds job.world held.graph held.seat front
 
 -- the status, the history, the graph with its one seat, and the text that an input calls for, where the statistics at

@@ -12,13 +12,13 @@ use Rattle.crystal_shell.specs.declared.hearing.Heard.{Heard}
 use Rattle.crystal_shell.specs.declared.hearing.Heard.TheVariants.{Refused, Grow, Sample, Census, Match}
 
 -- the number of a fault of the words; a judgement is never want of memory, which has none
-abbrev pub number_of : Option ℕ → ℕ
-number_of (Some number) = number
-number_of None = 0
+abbrev pub number_or_zero : Option ℕ → ℕ
+number_or_zero (Some number) = number
+number_or_zero None = 0
 
 -- what judged words ask for
 abbrev pub heard_of : Result Settings WordsFault → Heard
-heard_of (Err fault) = Refused (number_of (fault_number fault))
+heard_of (Err fault) = Refused (number_or_zero (fault_number fault))
 heard_of (Ok (setting.Grow growers places)) = Grow growers places
 heard_of (Ok (setting.Sample growers number)) = Sample growers number
 heard_of (Ok (setting.Census shape)) = Census shape

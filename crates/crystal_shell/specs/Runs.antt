@@ -5,9 +5,10 @@ use Rattle.crystal_streams.specs.Faults.{Rose}
 use Rattle.crystal_streams.specs.Reads.{TakesAtMost}
 use Rattle.graph_history.specs.declared.event.Event.{Event}
 use Rattle.graph_runs.specs.declared.run.Held.{Held}
+use Rattle.job_text.specs.Jobs.{most_job_bytes}
 use Rattle.crystal_shell.specs.Statistics.{Reporter, names_of}
 use Rattle.crystal_shell.specs.Heard.{heard_in, asks_for_job}
-use Rattle.crystal_shell.specs.Inputs.{job_limit, IsInput, ReadsJob}
+use Rattle.crystal_shell.specs.Inputs.{IsInput, ReadsJob}
 use Rattle.crystal_shell.specs.Answers.{CallsFor, status_number}
 use Rattle.crystal_shell.specs.declared.outcomes.Outcome.{Outcome}
 use Rattle.crystal_shell.specs.declared.outcomes.Status.{Status}
@@ -27,7 +28,7 @@ pub record HasRead {S : Type 0} (left : S → Option (List ℕ)) (faults : S →
   -- else it is read to its end, or to one byte more than a job may have
   pub whole : asks_for_job (heard_in words (names_of reporters)) ≡ true → done → ReadsJob (left before) (left after)
   -- no more is taken than that, whatever happens
-  pub most : TakesAtMost (job_limit + 1) (left before) (left after)
+  pub most : TakesAtMost (most_job_bytes + 1) (left before) (left after)
   -- a fault of a read comes only where one was asked for and failed
   pub fault : failed → (asks_for_job (heard_in words (names_of reporters)) ≡ true) × Rose (faults before) (faults after)
   -- the count of failed reads never falls

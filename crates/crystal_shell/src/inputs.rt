@@ -2,17 +2,15 @@
 ghost use Rattle.std.specs.Prelude.{◌≡◌, ◌≤◌, ◌+◌, ℕ, List, IfOk, OnOk, IsErrOf, length, Err};
 ghost use Rattle.crystal_streams.specs.Faults.{Rose};
 ghost use Rattle.crystal_streams.specs.Reads.{TakesAtMost};
+ghost use Rattle.job_text.specs.Jobs.{most_job_bytes};
 ghost use Rattle.job_text.specs.Judge.{judge};
 ghost use Rattle.job_text.specs.Outcomes.{GivesAtLine};
-ghost use Rattle.crystal_shell.specs.Inputs.{IsInput, IsLawful, ReadsJob, by_number, job_limit, judged_input};
+ghost use Rattle.crystal_shell.specs.Inputs.{IsInput, IsLawful, ReadsJob, by_number, judged_input};
 
 use crate::outcomes::NoAnswer;
 use crystal_streams::{NoMemory, ReadEnd, Source, read_all};
-use job_text::{Job, JobFault, read_job};
+use job_text::{Job, JobFault, MOST_JOB_BYTES, read_job};
 use std::alloc::Global;
-
-/// The most bytes of a job.
-const JOB_LIMIT: usize = 1_048_576;
 
 /// The fault of a job that is too long.
 const TOO_LONG: u8 = 14;
@@ -31,11 +29,11 @@ pub(crate) fn read_input<R: Source>(alloc: Global, source: &mut R) -> Result<Inp
     ensures judged { IfOk result (λ found. (input : List ℕ) × IsInput (R.left source.old) input × (found ≡ judged_input input)) }
     ensures lawful { IfOk result IsLawful }
     ensures taken { OnOk result (ReadsJob (R.left source.old) (R.left source.new)) }
-    ensures most { TakesAtMost (job_limit + 1) (R.left source.old) (R.left source.new) }
+    ensures most { TakesAtMost (most_job_bytes + 1) (R.left source.old) (R.left source.new) }
     ensures later { R.faults source.old ≤ R.faults source.new }
     ensures read_fault { IsErrOf result NoAnswer.ReadFault → Rose (R.faults source.old) (R.faults source.new) }
 {
-    match read_all(alloc, source, JOB_LIMIT) {
+    match read_all(alloc, source, MOST_JOB_BYTES) {
         Ok(bytes) => Ok(read_text(alloc, bytes.as_slice())?),
         Err(ReadEnd::TooLong) => Ok(Input::Refused {
             line: 0,
@@ -48,7 +46,7 @@ pub(crate) fn read_input<R: Source>(alloc: Global, source: &mut R) -> Result<Inp
 
 /// What a text says.
 fn read_text(alloc: Global, bytes: &[u8]) -> Result<Input, NoMemory>
-    requires { length bytes.now ≤ job_limit }
+    requires { length bytes.now ≤ most_job_bytes }
     ensures judged { IfOk result (λ found. found ≡ judged_input bytes.now) }
     ensures lawful { IfOk result IsLawful }
 {

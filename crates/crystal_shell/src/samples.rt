@@ -8,15 +8,9 @@ use answer_text::Answer;
 use canonical_graph::Finished;
 use crystal_streams::{Gate, NoMemory};
 use graph_runs::{Ran, run_beside};
-use job_text::{Job, sample_job};
+use job_text::{Job, SAMPLE_COMMANDS, SAMPLE_SESSIONS, sample_job};
 use std::alloc::Global;
 use std::thread::Threads;
-
-/// The sessions of a sample job.
-const SESSIONS: u32 = 4;
-
-/// The commands of all its sessions.
-const COMMANDS: u32 = 256;
 
 /// The answer to the number of a sample, with so many growers.
 pub(crate) fn sample<T: Threads + Sync, G: Gate>(
@@ -51,8 +45,8 @@ pub(crate) fn sample<T: Threads + Sync, G: Gate>(
         answer: Answer::Sample {
             number,
             cartan,
-            sessions: SESSIONS,
-            commands: COMMANDS,
+            sessions: SAMPLE_SESSIONS,
+            commands: SAMPLE_SESSIONS * SAMPLE_COMMANDS,
             graph: finished,
         },
     })

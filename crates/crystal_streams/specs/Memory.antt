@@ -8,12 +8,12 @@ pub record SourceState : Type 0 where
   pub left : List ℕ
   pub fails : List ℕ
   pub at_most : ℕ
-  pub calls : ℕ
+  pub reads : ℕ
   pub faults : ℕ
 
 -- the next read of the source fails
 abbrev pub ReadFails : SourceState → Type 0
-ReadFails s = Contains s.fails (next_count s.calls)
+ReadFails s = Contains s.fails (next_count s.reads)
 
 -- how many bytes a read into `space` bytes gives, where it does not fail
 abbrev pub read_count : SourceState → ℕ → ℕ
@@ -21,11 +21,11 @@ read_count s space = min (min space s.at_most) (length s.left)
 
 -- the source after a read that gave `count` bytes
 abbrev pub after_read : SourceState → ℕ → SourceState
-after_read s count = record s { left = drop count s.left; calls = next_count s.calls }
+after_read s count = record s { left = drop count s.left; reads = next_count s.reads }
 
 -- the source after a read that failed
 abbrev pub after_failed_read : SourceState → SourceState
-after_failed_read s = record s { calls = next_count s.calls; faults = next_count s.faults }
+after_failed_read s = record s { reads = next_count s.reads; faults = next_count s.faults }
 
 -- a sink in memory: the bytes taken, how many it takes in all, the numbers of the writes that fail, the most bytes
 -- that one write takes, how many writes were made and how many of them failed
@@ -34,12 +34,12 @@ pub record SinkState : Type 0 where
   pub room : ℕ
   pub fails : List ℕ
   pub at_most : ℕ
-  pub calls : ℕ
+  pub writes : ℕ
   pub faults : ℕ
 
 -- the next write to the sink fails
 abbrev pub WriteFails : SinkState → Type 0
-WriteFails s = Contains s.fails (next_count s.calls) ⊎ (length s.held ≡ s.room)
+WriteFails s = Contains s.fails (next_count s.writes) ⊎ (length s.held ≡ s.room)
 
 -- how many bytes a write of `offered` bytes takes, where it does not fail
 abbrev pub write_count : SinkState → ℕ → ℕ
@@ -47,8 +47,8 @@ write_count s offered = min (min offered s.at_most) (s.room - length s.held)
 
 -- the sink after a write that took `taken`
 abbrev pub after_write : SinkState → List ℕ → SinkState
-after_write s taken = record s { held = s.held ++ taken; calls = next_count s.calls }
+after_write s taken = record s { held = s.held ++ taken; writes = next_count s.writes }
 
 -- the sink after a write that failed
 abbrev pub after_failed_write : SinkState → SinkState
-after_failed_write s = record s { calls = next_count s.calls; faults = next_count s.faults }
+after_failed_write s = record s { writes = next_count s.writes; faults = next_count s.faults }

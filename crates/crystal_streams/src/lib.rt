@@ -5,8 +5,8 @@
 //! more in that call: `Source` and `Sink` (`sources`, `sinks`) have a count of faults beside their bytes. `MemorySource`
 //! and `MemorySink` (`memory`) fail at the calls that they are told to, for tests; `InputAdapter` and `OutputAdapter`
 //! (`adapters`) stand before std's readers and writers, and their contracts tell nothing of the bytes. A `Line`
-//! (`lines`) is one line of text while it is made, without memory of its own; `push_line` puts it behind a text. A `Gate` (`gates`) is what workers pass
-//! before their turns.
+//! (`lines`) is one line of text while it is made, without memory of its own; `push_line` puts it behind a text. A
+//! `Gate` (`gates`) is what workers pass before their turns.
 //!
 //! **Stands on** itoa, for numbers of more than one digit.
 #![tactic(auto)]

@@ -31,7 +31,7 @@ impl Model for MemorySource {
       left = drop s.at s.bytes.items;
       fails = s.failing.items;
       at_most = s.most;
-      calls = s.reads;
+      reads = s.reads;
       faults = s.failures;
     } };
 
@@ -47,7 +47,7 @@ impl MemorySource {
           left = bytes.items;
           fails = fails.items;
           at_most = at_most;
-          calls = 0;
+          reads = 0;
           faults = 0;
         } }
     {
@@ -113,7 +113,7 @@ impl Model for MemorySink {
       room = s.capacity;
       fails = s.failing.items;
       at_most = s.most;
-      calls = s.writes;
+      writes = s.writes;
       faults = s.failures;
     } };
 
@@ -138,7 +138,7 @@ impl MemorySink {
           room = room;
           fails = fails.items;
           at_most = at_most;
-          calls = 0;
+          writes = 0;
           faults = 0;
         }) }
     {

@@ -18,6 +18,7 @@ use crate::operators::Operators;
 use crystal_cartan::Arrow;
 use crystal_streams::NoMemory;
 use indexmap::IndexSet;
+use signature_rule::arrow_place;
 use std::alloc::Global;
 use std::marker::Model;
 use tensor_words::World;
@@ -215,10 +216,9 @@ impl PlainDesk {
         ensures place { result ≡ edge_place self.now.world.space.cartan.rank cell arrow }
         ensures fits { result < length (state_of self.now.front).vertices * (2 * self.now.world.space.cartan.rank) }
     {
-        let rank = self.world.space().cartan().rank() as usize;
-        let index = arrow.index as usize - 1;
-        let place = if arrow.down { index } else { rank + index };
-        cell as usize * (2 * rank) + place
+        let rank = self.world.space().cartan().rank();
+        let place = arrow_place(rank, arrow);
+        cell as usize * (2 * usize::from(rank)) + place
     }
 
     /// What is drawn of this arrow.

@@ -9,9 +9,10 @@ ghost use Rattle.graph_rule.specs.Told.{Advances, target_in, glanced_acts, drawn
 ghost use Rattle.graph_rule.specs.Values.{Belongs};
 
 use crate::graph::Graph;
-use crate::plays::{AskedArrow, Draw, Glance};
+use crate::plays::{AskedArrow, DrawArrow, Glance};
 use crate::seat::Seat;
 use crystal_cartan::Arrow;
+use signature_rule::arrow_place;
 use std::marker::Brand;
 
 /// The word of an arrow: 0 where it is not drawn, 1 where it leads to zero, else the target's cell and 2. The event is
@@ -77,7 +78,7 @@ fn claim_edge_as<J: AskedArrow>(
     graph
         .board
         .shared
-        .compare_exchange::<Draw<J>>(&mut seat.token, index, 0, word)
+        .compare_exchange::<DrawArrow<J>>(&mut seat.token, index, 0, word)
 }
 
 /// Where the word of an arrow stands.
@@ -87,10 +88,9 @@ fn word_index(graph: &Graph, cell: u32, arrow: Arrow) -> usize
     ensures { result ≡ arrow_index graph.now.world cell arrow }
 {
     let cells = graph.world().cells() as usize;
-    let rank = graph.world().space().cartan().rank() as usize;
-    let index = arrow.index as usize - 1;
-    let place = if arrow.down { index } else { rank + index };
-    1 + cells + (cell as usize * (2 * rank) + place)
+    let rank = graph.world().space().cartan().rank();
+    let place = arrow_place(rank, arrow);
+    1 + cells + (cell as usize * (2 * usize::from(rank)) + place)
 }
 
 /// The word of an arrow with this target.

@@ -30,11 +30,11 @@ impl Asked for Brand {
 }
 
 /// A load of a cell.
-pub(crate) struct Look<J> {
+pub(crate) struct LoadCell<J> {
     of: PhantomData<J>,
 }
 
-impl<J: Asked> Play<(), View> for Look<J> {
+impl<J: Asked> Play<(), View> for LoadCell<J> {
     ghost then = { looked J.cell };
 }
 
@@ -101,11 +101,11 @@ impl<J: AskedArrow> Play<(), View> for Glance<J> {
 }
 
 /// An exchange of the word of an arrow from not drawn to a target.
-pub(crate) struct Draw<J> {
+pub(crate) struct DrawArrow<J> {
     of: PhantomData<J>,
 }
 
-impl<J: AskedArrow> Play<(), View> for Draw<J> {
+impl<J: AskedArrow> Play<(), View> for DrawArrow<J> {
     ghost then = { drawn J.cell J.arrow J.target };
 }
 

@@ -8,7 +8,7 @@ ghost use Rattle.graph_rule.specs.Told.{Advances, cell_word, confirmed_acts, sou
 ghost use Rattle.graph_rule.specs.Values.{Belongs};
 
 use crate::graph::Graph;
-use crate::plays::{Asked, Claim, Confirm, Look, Seek, SeekRoom};
+use crate::plays::{Asked, Claim, Confirm, LoadCell, Seek, SeekRoom};
 use crate::seat::Seat;
 use graph_history::Origin;
 use std::marker::Brand;
@@ -35,7 +35,7 @@ fn load_cell_as<J: Asked>(graph: &Graph, seat: &mut Seat, cell: u32) -> u64
     graph
         .board
         .shared
-        .load::<Look<J>>(&mut seat.token, 1 + cell as usize)
+        .load::<LoadCell<J>>(&mut seat.token, 1 + cell as usize)
 }
 
 /// Whether the vertex of this cell has this code. The event is `Met` where it has; else there is none. Unlike a search it

@@ -20,7 +20,7 @@ use Rattle.crystal_growers.specs.SharedDesks.{Worked}
 use Rattle.crystal_growers.specs.Work.{CanDraw}
 use Rattle.crystal_growers.specs.Grow.{IsGrown, IsCovered}
 use Rattle.crystal_growers.proofs.SharedSteps.{worked_belongs}
-use Rattle.graph_runs.specs.Runs.{HasSpent, Ends, closed as is_closed, spent as is_spent}
+use Rattle.graph_runs.specs.Runs.{HasSpent, EndsRun, closed as is_closed, spent as is_spent}
 use Rattle.graph_runs.specs.Ending.{CanEnd, IsOver}
 use Rattle.graph_runs.proofs.Heard.{prefix_on}
 
@@ -36,13 +36,13 @@ spent_stays f h (rest, is) (n, x, there) =
 
 -- how it ends
 
-pub ended_spent : (w : WorldType) (h : List Event) → IsLegal w h → HasSpent h → Ends w h None
+pub ended_spent : (w : WorldType) (h : List Event) → IsLegal w h → HasSpent h → EndsRun w h None
 ended_spent w h legal (n, x, there) = is_spent (n, x, there) (spent_outnumbers w h n x legal there)
 
 pub ended_closed : (w : WorldType) (h : List Event) (finished : FinishedType) → IsLegal w h → IsClosed w (state_of h) → HasRoots w (state_of h) → IsCodeList (state_of h) finished.codes
-    → finished.space ≡ w.space → Ends w h (Some finished)
+    → finished.space ≡ w.space → EndsRun w h (Some finished)
 ended_closed w h finished legal closed roots codes space =
-    subst (λ (f : FinishedType). Ends w h (Some f)) (λ i. record { space = sym space i; codes = finished.codes })
+    subst (λ (f : FinishedType). EndsRun w h (Some f)) (λ i. record { space = sym space i; codes = finished.codes })
     (is_closed finished.codes closed codes (closed_is_components w h finished.codes legal closed roots codes) (closed_fits w h legal closed roots))
 
 -- what a growth leaves
@@ -96,7 +96,7 @@ module _ (g : GraphValue) (old new : SeatValue) (cells : List ℕ) (growers : �
   pub grown_belongs : Belongs new g
   grown_belongs = record { table = table ∙ can.belongs.table; world = grown.world ∙ can.belongs.world }
 
-  pub over : (finished : Option FinishedType) → Ends g.world new.view.front finished → IsOver g old new finished
+  pub over : (finished : Option FinishedType) → EndsRun g.world new.view.front finished → IsOver g old new finished
   over finished ends = record {
     belongs = grown_belongs;
     number = grown.number;
@@ -171,7 +171,7 @@ over_ok g old mid growers can acts worked new (Err e) o = tt
 -- the graph was settled, and its vertices were numbered
 pub numbered : (g : GraphValue) (s : SeatValue) (settled : ClosedValue) (finished : FinishedType) → Belongs s g → IsKnown s.view → settled.world ≡ g.world → settled.front ≡ s.view.front
     → IsClosed settled.world (state_of settled.front) → HasRoots g.world (state_of s.view.front) → IsCodeList (state_of s.view.front) finished.codes → finished.space ≡ s.view.world.space
-    → Ends g.world s.view.front (Some finished)
+    → EndsRun g.world s.view.front (Some finished)
 numbered g s settled finished belongs known world front closed roots codes space =
     ended_closed g.world s.view.front finished (legal_here g s belongs known)
     (subst (λ (w : WorldType). IsClosed w (state_of s.view.front)) world (subst (λ (h : List Event). IsClosed settled.world (state_of h)) front closed)) roots codes

@@ -16,7 +16,7 @@ use Rattle.job_text.specs.declared.commands.Command.{Command}
 use Rattle.job_text.specs.declared.commands.Command.TheVariants.{Add}
 use Rattle.session_desk.specs.declared.reply.Reply.{Reply}
 use Rattle.session_desk.specs.Replies.{replies}
-use Rattle.session_desk.specs.Sessions.{IsAsked, Ran}
+use Rattle.session_desk.specs.Sessions.{IsAsked, RanScript}
 use Rattle.session_desk.specs.Texts.{IsPrintable}
 use Rattle.graph_runs.specs.Serving.{IsServed, IsBegun}
 
@@ -34,7 +34,7 @@ desk_at seat room = record { first = seat; seat = seat; room = room; added = [] 
 
 -- a script ran on a new desk at a seat
 pub served : (w : WorldType) (script : List Command) (seat : SeatValue) (room : ℕ) (now : DeskValue) (new : SeatValue) (cells : List ℕ) (before after : List Reply)
-    → seat.view.world ≡ w → before ≡ [] → Ran (standing_of (desk_at seat room)) (standing_of now) script before after → new ≡ now.seat
+    → seat.view.world ≡ w → before ≡ [] → RanScript (standing_of (desk_at seat room)) (standing_of now) script before after → new ≡ now.seat
     → (acts : List Act) × Worked now.first new acts × (cells ≡ added_cells acts) → IsServed w script seat new cells after
 served w script seat room now new cells before after world none ran new_is (acts, worked, listed) =
     let mine : Worked seat new acts = subst (λ (s : SeatValue). Worked s new acts) ran.goes.bond worked in

@@ -11,7 +11,7 @@ use Rattle.graph_rule.specs.Values.{GraphValue, SeatValue, Belongs}
 use Rattle.crystal_growers.specs.SharedDesks.{Worked}
 use Rattle.crystal_growers.specs.declared.growing.Grown.{Grown}
 use Rattle.crystal_growers.specs.declared.growing.Grown.TheVariants.{Closed, Full}
-use Rattle.graph_runs.specs.Runs.{HasSpent, Ends}
+use Rattle.graph_runs.specs.Runs.{HasSpent, EndsRun}
 
 -- a seat that has the whole stake may end a run
 pub record CanEnd (g : GraphValue) (s : SeatValue) (growers : ℕ) : Type 0 where
@@ -54,4 +54,4 @@ pub record IsOver (g : GraphValue) (old new : SeatValue) (finished : Option Fini
   pub front : IsPrefix old.view.front new.view.front
   pub kept : (m : Kept) → Contains old.view.kept m → Contains new.view.kept m
   pub known : IsKnown new.view
-  pub ends : Ends g.world new.view.front finished
+  pub ends : EndsRun g.world new.view.front finished

@@ -44,13 +44,13 @@ abbrev pub HasSpent : List Event → Type 0
 HasSpent h = (n : ℕ) × (x : ℕ) × Contains h (record { caller = n; act = Spent x })
 
 -- how a run ends
-pub data Ends (w : WorldType) (front : List Event) : Option FinishedType → Type 0 where
+pub data EndsRun (w : WorldType) (front : List Event) : Option FinishedType → Type 0 where
   -- its graph is closed, and numbered: the vertices are the words that are reached from the roots, and there are no more of
   -- these than cells
   closed : (codes : List ℕ) → IsClosed w (state_of front) → IsCodeList (state_of front) codes → IsComponentList w codes
-      → (Outnumber w → ⊥) → Ends w front (Some (finished_graph w.space codes))
+      → (Outnumber w → ⊥) → EndsRun w front (Some (finished_graph w.space codes))
   -- or some word found no cell, and the reached words outnumber the cells
-  spent : HasSpent front → Outnumber w → Ends w front None
+  spent : HasSpent front → Outnumber w → EndsRun w front None
 
 -- the graph of the run, with the one seat that is left
 pub record Holds (w : WorldType) (g : GraphValue) (s : SeatValue) (front : List Event) : Type 0 where

@@ -4,7 +4,7 @@ ghost use Rattle.graph_history.specs.History.{state_of};
 ghost use Rattle.graph_history.specs.Laws.{HasRoots};
 ghost use Rattle.graph_rule.specs.Rule.{whole};
 ghost use Rattle.graph_rule.specs.Values.{Belongs};
-ghost use Rattle.graph_runs.specs.Runs.{Ends};
+ghost use Rattle.graph_runs.specs.Runs.{EndsRun};
 ghost use Rattle.graph_runs.specs.Ending.{CanEnd, IsLeft, HasEnteredRoots, IsOver};
 
 use canonical_graph::Finished;
@@ -96,7 +96,7 @@ fn number_all(alloc: Global, graph: &Graph, seat: &mut Seat) -> Result<Finished,
     requires unpaid { seat.old.view.dues.unpaid ≡ [] }
     requires roots { HasRoots graph.now.world (state_of seat.old.view.front) }
     ensures same { IfOk result (λ graph. seat.new ≡ seat.old) }
-    ensures ends { IfOk result (λ finished. Ends graph.now.world seat.old.view.front (Some finished)) }
+    ensures ends { IfOk result (λ finished. EndsRun graph.now.world seat.old.view.front (Some finished)) }
 {
     let _stake = seat.stake();
     let closed = settle(graph, seat);

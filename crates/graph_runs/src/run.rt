@@ -2,7 +2,7 @@
 ghost use Rattle.std.specs.Prelude.{◌≡◌, ℕ, ◌<◌, ◌≤◌, [], length, All, Contains, IfOk, slice_index_or};
 ghost use Rattle.session_desk.specs.Sessions.{IsAsked};
 ghost use Rattle.session_desk.specs.Texts.{IsPrintable};
-ghost use Rattle.graph_runs.specs.Runs.{IsHistory, Ends, Holds};
+ghost use Rattle.graph_runs.specs.Runs.{IsHistory, EndsRun, Holds};
 
 use crate::beside::{GrownSeat, run_both};
 use crate::finish::finish;
@@ -55,7 +55,7 @@ pub fn run_beside<R: Threads + Sync, G: Gate>(
     requires growers { (1 ≤ growers) × (growers ≤ 16) }
     ensures history { IfOk result (λ ran. IsHistory world starts.now scripts.now ran.front ran.told.items) }
     ensures printable { IfOk result (λ ran. (k : ℕ) → k < length scripts.now → All (IsPrintable world.space) (slice_index_or ran.told.items k [])) }
-    ensures ends { IfOk result (λ ran. Ends world ran.front ran.finished) }
+    ensures ends { IfOk result (λ ran. EndsRun world ran.front ran.finished) }
     ensures held { IfOk result (λ ran. Holds world ran.held.graph ran.held.seat ran.front) }
 {
     let (graph, seat) = Graph::new(alloc, world)?;

@@ -3,6 +3,9 @@
 //! Usage: growth_bench GROWERS < JOB, where GROWERS is 0 (the graph is made, and nothing is grown) to 16. The graph is
 //! grown from the job's least root. Prints how that ended. Without an argument a small crystal is grown by one grower and
 //! by four.
+//!
+//! It promises nothing but that it ends, and stands on job_text for jobs and on crystal_growers for `grow`. Read
+//! `growing` first.
 #![tactic(auto)]
 
 ghost use Rattle.std.specs.Prelude.{◌≤◌};
@@ -11,13 +14,10 @@ mod growing;
 
 use crystal_streams::{InputAdapter, NoMemory, read_all};
 use growing::{GrowthEnd, run};
-use job_text::{Job, read_job};
+use job_text::{Job, MOST_JOB_BYTES, read_job};
 use std::alloc::Global;
 use std::thread::Threads;
 use std::{env, io};
-
-/// The most bytes of a job.
-const MOST_BYTES: usize = 1_048_576;
 
 /// The crystal of eight vertices in the cube of the vectors of A_2.
 const SMALL: &[u8] = b"crystal-job 1
@@ -34,7 +34,11 @@ fn main(rt: HostRuntime) -> io::Result<()> {
     let Some(growers) = growers.parse::<u32>().ok().filter(|count| *count <= 16) else {
         return println!(rt; "usage: growth_bench GROWERS < JOB");
     };
-    let Ok(bytes) = read_all(rt.alloc(), &mut InputAdapter::new(rt.stdin()), MOST_BYTES) else {
+    let Ok(bytes) = read_all(
+        rt.alloc(),
+        &mut InputAdapter::new(rt.stdin()),
+        MOST_JOB_BYTES,
+    ) else {
         return println!(rt; "no job");
     };
     println!(rt; "{}", answer(&rt, rt.alloc(), bytes.as_slice(), growers))
@@ -44,7 +48,7 @@ fn main(rt: HostRuntime) -> io::Result<()> {
 fn answer<R: Threads + Sync>(rt: &R, alloc: Global, bytes: &[u8], growers: u32) -> &'static str
     requires { growers ≤ 16 }
 {
-    if bytes.len() > MOST_BYTES {
+    if bytes.len() > MOST_JOB_BYTES {
         return "no job";
     }
     let Ok(Job { world, .. }) = read_job(alloc, bytes) else {

@@ -3,5 +3,6 @@
 mod gatherings;
 mod growers;
 mod growths;
+mod meetings;
 mod parcels;
 mod runs;

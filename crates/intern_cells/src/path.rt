@@ -4,7 +4,7 @@ ghost use Rattle.tensor_words.specs.Worlds.{most_cells};
 ghost use Rattle.graph_rule.specs.Layout.{home};
 
 /// The odd number next to 2^64 divided by the golden ratio, which spreads codes that lie close.
-const SPREAD: u64 = 11_400_714_819_323_198_485;
+pub const SPREAD: u64 = 11_400_714_819_323_198_485;
 
 /// The cell at which the search for a code begins.
 #[tactic(auto, unfolding(graph_rule::specs::Layout::home))]

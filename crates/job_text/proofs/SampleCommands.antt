@@ -8,12 +8,12 @@ use Rattle.text_pieces.proofs.Spaced.{word_before}
 use Rattle.job_text.specs.declared.commands.Command.{Command}
 use Rattle.job_text.specs.declared.commands.Command.TheVariants.{Find, Look, Move, Phi}
 use Rattle.job_text.specs.declared.drafts.Progress.{Progress}
-use Rattle.job_text.specs.declared.drafts.State.TheVariants.{Headed}
+use Rattle.job_text.specs.declared.drafts.Stage.TheVariants.{Headed}
 use Rattle.job_text.specs.declared.drafts.Known.TheVariants.{Begun}
-use Rattle.job_text.specs.declared.keys.Part.{Part}
-use Rattle.job_text.specs.declared.keys.Part.TheVariants as part
+use Rattle.job_text.specs.declared.keys.JobPart.{JobPart}
+use Rattle.job_text.specs.declared.keys.JobPart.TheVariants as part
 use Rattle.job_text.specs.declared.keys.Version.TheVariants.{One}
-use Rattle.job_text.specs.Rules.{rule_of, row_of, table}
+use Rattle.job_text.specs.Rules.{rule_of, rule_of_key, table}
 use Rattle.job_text.specs.Drafts.{Drafted, last_script, with_command}
 use Rattle.job_text.specs.Judge.{line_made, worded, ruled, made, drafted, has_room, coded, indexed, arrow}
 use Rattle.job_text.specs.Samples.{index_text, before_word}
@@ -21,7 +21,7 @@ use Rattle.job_text.proofs.SampleTexts.{printed_append, IsIndexText}
 use Rattle.job_text.proofs.SampleLines.{is_plain}
 
 -- a draft in a part of a job of version 1
-abbrev pub progress : Part → Drafted → Progress
+abbrev pub progress : JobPart → Drafted → Progress
 progress p d = record { version = One; part = p; known = Begun d }
 
 -- a line is judged by its words
@@ -34,31 +34,31 @@ by_words line ws p q printed cut judged = rw (printed, cut, judged) refl
 
 find_worded : (d : Drafted) (args : List (List ℕ)) (c : ℕ) → nat_le 1 (length args) ≡ true → nat_lt (length (last_script d)) 4096 ≡ true →
     coded d.space args ≡ Ok c → worded (codes "find" ∷ args) (progress part.Session d) ≡ Ok (progress part.Session (with_command d (Find c)))
-unfolding worded ruled rule_of row_of table made drafted has_room
+unfolding worded ruled rule_of rule_of_key table made drafted has_room
 find_worded d args c some room read = rw (some, room, read) refl
 
 look_worded : (d : Drafted) (number : List ℕ) (args : List (List ℕ)) (i c : ℕ) → nat_le 3 (length (codes "f" ∷ number ∷ args)) ≡ true →
     nat_lt (length (last_script d)) 4096 ≡ true → indexed d.space number ≡ Ok i → coded d.space args ≡ Ok c →
     worded (codes "look" ∷ codes "f" ∷ number ∷ args) (progress part.Session d) ≡ Ok (progress part.Session (with_command d (Look (arrow true i) c)))
-unfolding worded ruled rule_of row_of table made drafted has_room
+unfolding worded ruled rule_of rule_of_key table made drafted has_room
 look_worded d number args i c some room index read = rw (some, room, index, read) refl
 
 lower_worded : (d : Drafted) (number : List ℕ) (args : List (List ℕ)) (i c : ℕ) → nat_le 2 (length (number ∷ args)) ≡ true →
     nat_lt (length (last_script d)) 4096 ≡ true → indexed d.space number ≡ Ok i → coded d.space args ≡ Ok c →
     worded (codes "f" ∷ number ∷ args) (progress part.Session d) ≡ Ok (progress part.Session (with_command d (Move (arrow true i) c)))
-unfolding worded ruled rule_of row_of table made drafted has_room
+unfolding worded ruled rule_of rule_of_key table made drafted has_room
 lower_worded d number args i c some room index read = rw (some, room, index, read) refl
 
 raise_worded : (d : Drafted) (number : List ℕ) (args : List (List ℕ)) (i c : ℕ) → nat_le 2 (length (number ∷ args)) ≡ true →
     nat_lt (length (last_script d)) 4096 ≡ true → indexed d.space number ≡ Ok i → coded d.space args ≡ Ok c →
     worded (codes "e" ∷ number ∷ args) (progress part.Session d) ≡ Ok (progress part.Session (with_command d (Move (arrow false i) c)))
-unfolding worded ruled rule_of row_of table made drafted has_room
+unfolding worded ruled rule_of rule_of_key table made drafted has_room
 raise_worded d number args i c some room index read = rw (some, room, index, read) refl
 
 phi_worded : (d : Drafted) (number : List ℕ) (args : List (List ℕ)) (i c : ℕ) → nat_le 2 (length (number ∷ args)) ≡ true →
     nat_lt (length (last_script d)) 4096 ≡ true → indexed d.space number ≡ Ok i → coded d.space args ≡ Ok c →
     worded (codes "phi" ∷ number ∷ args) (progress part.Session d) ≡ Ok (progress part.Session (with_command d (Phi i c)))
-unfolding worded ruled rule_of row_of table made drafted has_room
+unfolding worded ruled rule_of rule_of_key table made drafted has_room
 phi_worded d number args i c some room index read = rw (some, room, index, read) refl
 
 -- ---- their lines

@@ -11,9 +11,9 @@ use Rattle.tableau_reading.specs.Shapes.{IsShape, tableau_shape, shape_of}
 use Rattle.tableau_reading.specs.Readings.{top_word}
 use Rattle.tableau_reading.specs.Tokens.{word_read, token_digit}
 use Rattle.tableau_reading.proofs.VectorSpaces.{shape_is_space}
-use Rattle.job_text.specs.declared.drafts.State.TheVariants.{Unread, Headed}
-use Rattle.job_text.specs.declared.keys.Part.TheVariants as part
-use Rattle.job_text.specs.Rules.{rule_of, row_of, table}
+use Rattle.job_text.specs.declared.drafts.Stage.TheVariants.{Unread, Headed}
+use Rattle.job_text.specs.declared.keys.JobPart.TheVariants as part
+use Rattle.job_text.specs.Rules.{rule_of, rule_of_key, table}
 use Rattle.job_text.specs.Drafts.{Drafted, starts_of}
 use Rattle.job_text.specs.Judge.{line_made, worded, ruled, made, placed, drafted, has_room}
 use Rattle.job_text.specs.Samples.{SampleHead, type_with, head_A, head_B, head_C, head_D, sample_head}
@@ -91,19 +91,19 @@ word_D = digits_by_test (sizes head_D.space) head_D.start refl
 -- ---- lines by computing
 
 leads_A : after_lines (codes "crystal-job 1" ∷ head_A.lines) Unread ≡ Ok (Headed (progress part.Head (head_draft head_A (Some (code_of head_A.space head_A.start)) [] 4096)))
-unfolding line_made worded ruled made placed drafted has_room rule_of row_of table shape_of space_of base_size
+unfolding line_made worded ruled made placed drafted has_room rule_of rule_of_key table shape_of space_of base_size
 leads_A = refl
 
 leads_B : after_lines (codes "crystal-job 1" ∷ head_B.lines) Unread ≡ Ok (Headed (progress part.Head (head_draft head_B None (code_of head_B.space head_B.start ∷ []) 2048)))
-unfolding line_made worded ruled made placed drafted has_room rule_of row_of table shape_of space_of base_size word_read token_digit letters
+unfolding line_made worded ruled made placed drafted has_room rule_of rule_of_key table shape_of space_of base_size word_read token_digit letters
 leads_B = refl
 
 leads_C : after_lines (codes "crystal-job 1" ∷ head_C.lines) Unread ≡ Ok (Headed (progress part.Head (head_draft head_C (Some (code_of head_C.space head_C.start)) [] 200000)))
-unfolding line_made worded ruled made placed drafted has_room rule_of row_of table shape_of space_of base_size
+unfolding line_made worded ruled made placed drafted has_room rule_of rule_of_key table shape_of space_of base_size
 leads_C = refl
 
 leads_D : after_lines (codes "crystal-job 1" ∷ head_D.lines) Unread ≡ Ok (Headed (progress part.Head (head_draft head_D (Some (code_of head_D.space head_D.start)) [] 16384)))
-unfolding line_made worded ruled made placed drafted has_room rule_of row_of table shape_of space_of base_size
+unfolding line_made worded ruled made placed drafted has_room rule_of rule_of_key table shape_of space_of base_size
 leads_D = refl
 
 -- ---- the four heads

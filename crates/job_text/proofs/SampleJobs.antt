@@ -6,12 +6,13 @@ use Rattle.std.specs.List.{flat_map, list_all}
 use Rattle.crystal_streams.specs.Lines.{ended}
 use Rattle.tensor_words.specs.Codes.{code_of}
 use Rattle.job_text.specs.declared.commands.Command.{Command}
-use Rattle.job_text.specs.declared.drafts.State.{State}
-use Rattle.job_text.specs.declared.drafts.State.TheVariants.{Unread, Headed}
-use Rattle.job_text.specs.declared.keys.Part.{Part}
-use Rattle.job_text.specs.declared.keys.Part.TheVariants as part
+use Rattle.job_text.specs.declared.drafts.Stage.{Stage}
+use Rattle.job_text.specs.declared.drafts.Stage.TheVariants.{Unread, Headed}
+use Rattle.job_text.specs.declared.keys.JobPart.{JobPart}
+use Rattle.job_text.specs.declared.keys.JobPart.TheVariants as part
 use Rattle.job_text.specs.declared.jobs.Job.{Job}
 use Rattle.job_text.specs.Drafts.{job_of}
+use Rattle.job_text.specs.Jobs.{most_job_bytes}
 use Rattle.job_text.specs.Judge.{judge, at_end}
 use Rattle.job_text.specs.Samples.{SampleHead, sample_head, number_behind, session_lines, sample_session, sample_lines, sample, SamplesAreJobs, SamplesAreShort}
 use Rattle.job_text.proofs.SampleLines.{after_lines, after_append, is_plain, text_judged, text_length, plain_append}
@@ -20,7 +21,7 @@ use Rattle.job_text.proofs.SampleSessions.{scripted, session_script, script_leng
 use Rattle.job_text.proofs.SampleHeads.{IsHead, head_draft, head_is}
 
 -- a draft with a start ends in its job
-ends : (h : SampleHead) (is : IsHead h) (scripts : List (List Command)) (p : Part) →
+ends : (h : SampleHead) (is : IsHead h) (scripts : List (List Command)) (p : JobPart) →
     at_end (Headed (progress p (scripted (head_draft h is.top is.starts is.cells) scripts))) ≡ Ok (job_of (scripted (head_draft h is.top is.starts is.cells) scripts))
 unfolding at_end
 ends h is scripts p = rw is.begun refl
@@ -44,7 +45,7 @@ head_judged number =
       },
     )
 
-pub head_length : (number : ℕ) → length (flat_map ended (codes "crystal-job 1" ∷ (sample_head number).lines)) ≤ 1048576
+pub head_length : (number : ℕ) → length (flat_map ended (codes "crystal-job 1" ∷ (sample_head number).lines)) ≤ most_job_bytes
 head_length number =
     let is = head_is number in
     omega (arith, text_length (codes "crystal-job 1" ∷ (sample_head number).lines) is.plain, is.few)
@@ -108,7 +109,7 @@ samples_judged number =
     let C : ℕ → List Command = λ (k : ℕ). session_script h.space h.start (number_behind (64 * k) number) in
     let P : List Command → Type 0 = λ script. length script ≡ 64 in
     let count : (k : ℕ) → P (C k) = λ k. script_length h.space h.start (number_behind (64 * k) number) in
-    let last : State = Headed (progress part.Session (scripted d (C 0 ∷ C 1 ∷ C 2 ∷ C 3 ∷ []))) in
+    let last : Stage = Headed (progress part.Session (scripted d (C 0 ∷ C 1 ∷ C 2 ∷ C 3 ∷ []))) in
     let leads : after_lines (sample_lines number) Unread ≡ Ok last =
     ap (λ lines. after_lines lines Unread) (lines_are number)
     ∙ after_append (codes "crystal-job 1" ∷ h.lines) (four_lines h number) Unread (Headed (progress part.Head d)) is.leads

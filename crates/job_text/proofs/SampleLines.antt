@@ -8,18 +8,18 @@ use Rattle.std.proofs.lemmas.Bool.Decides.{nat_tests}
 use Rattle.text_pieces.specs.Pieces.{pieces, has_none, are_printed}
 use Rattle.text_pieces.proofs.Cuts.{piece_before}
 use Rattle.crystal_streams.specs.Lines.{ended}
-use Rattle.job_text.specs.declared.drafts.State.{State}
-use Rattle.job_text.specs.declared.drafts.State.TheVariants.{Unread}
+use Rattle.job_text.specs.declared.drafts.Stage.{Stage}
+use Rattle.job_text.specs.declared.drafts.Stage.TheVariants.{Unread}
 use Rattle.job_text.specs.declared.jobs.Job.{Job}
 use Rattle.job_text.specs.Judge.{Judged, and_then, at_line, line_made, at_end, judged_from, judge}
 use Rattle.job_text.proofs.LineSteps.{line_taken}
 
--- the state behind lines
-abbrev pub after_lines : List (List ℕ) → State → Judged State
-after_lines [] state = Ok state
-after_lines (line ∷ lines) state = and_then (line_made line state) (after_lines lines)
+-- the stage behind lines
+abbrev pub after_lines : List (List ℕ) → Stage → Judged Stage
+after_lines [] stage = Ok stage
+after_lines (line ∷ lines) stage = and_then (line_made line stage) (after_lines lines)
 
-pub after_append : (xs ys : List (List ℕ)) (s t : State) → after_lines xs s ≡ Ok t → after_lines (xs ++ ys) s ≡ after_lines ys t
+pub after_append : (xs ys : List (List ℕ)) (s t : Stage) → after_lines xs s ≡ Ok t → after_lines (xs ++ ys) s ≡ after_lines ys t
 after_append [] ys s t is = let same : s ≡ t = cc in ap (after_lines ys) same
 after_append (x ∷ xs) ys s t is =
     elim (line_made x s) as (λ r. and_then r (after_lines xs) ≡ Ok t → and_then r (after_lines (xs ++ ys)) ≡ after_lines ys t) [
@@ -41,19 +41,19 @@ no_end (byte ∷ bytes) printed =
     rw (other, no_end bytes there) refl
 
 -- one line in front of a text
-line_in_front : (n : ℕ) (s mid : State) (line rest : List ℕ) → are_printed line ≡ true → line_made line s ≡ Ok mid →
+line_in_front : (n : ℕ) (s mid : Stage) (line rest : List ℕ) → are_printed line ≡ true → line_made line s ≡ Ok mid →
     judged_from n s (pieces 10 ((line ++ 10 ∷ []) ++ rest)) ≡ judged_from (n + 1) mid (pieces 10 rest)
 line_in_front n s mid line rest printed made =
     ap (λ text. judged_from n s (pieces 10 text)) (append_assoc line (10 ∷ []) rest)
     ∙ ap (λ ps. judged_from n s ps) (piece_before 10 line rest (no_end line printed))
     ∙ line_taken n s mid line rest (ap (at_line n) made)
 
-text_after : (n : ℕ) (lines : List (List ℕ)) (s t : State) (rest : List ℕ) → list_all is_plain lines ≡ true → after_lines lines s ≡ Ok t →
+text_after : (n : ℕ) (lines : List (List ℕ)) (s t : Stage) (rest : List ℕ) → list_all is_plain lines ≡ true → after_lines lines s ≡ Ok t →
     judged_from n s (pieces 10 (flat_map ended lines ++ rest)) ≡ judged_from (n + length lines) t (pieces 10 rest)
 text_after n [] s t rest good is =
     let same : s ≡ t = cc in
     let last : n ≡ n + 0 = omega arith in
-    ap (λ state. judged_from n state (pieces 10 rest)) same ∙ ap (λ k. judged_from k t (pieces 10 rest)) last
+    ap (λ stage. judged_from n stage (pieces 10 rest)) same ∙ ap (λ k. judged_from k t (pieces 10 rest)) last
 text_after n (line ∷ lines) s t rest good is =
     let (here, there) = and_parts (is_plain line) (list_all is_plain lines) good in
     let (printed, short) = and_parts (are_printed line) (nat_le (length line) 199) here in
@@ -67,8 +67,8 @@ text_after n (line ∷ lines) s t rest good is =
       | Err why ↦ λ made h. cc
     ] refl is
 
--- the text of lines that lead to a state is judged as this state ends
-pub text_judged : (lines : List (List ℕ)) (t : State) (j : Job) → list_all is_plain lines ≡ true → after_lines lines Unread ≡ Ok t → at_end t ≡ Ok j →
+-- the text of lines that lead to a stage is judged as this stage ends
+pub text_judged : (lines : List (List ℕ)) (t : Stage) (j : Job) → list_all is_plain lines ≡ true → after_lines lines Unread ≡ Ok t → at_end t ≡ Ok j →
     judge (flat_map ended lines) ≡ Ok j
 unfolding judge
 text_judged lines t j good leads last =

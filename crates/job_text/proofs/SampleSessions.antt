@@ -14,11 +14,11 @@ use Rattle.tensor_words.proofs.KeptWords.{factors_of_space}
 use Rattle.tensor_words.proofs.Keeps.{lower_keeps}
 use Rattle.tableau_reading.specs.Texts.{word_text}
 use Rattle.job_text.specs.declared.commands.Command.{Command}
-use Rattle.job_text.specs.declared.drafts.State.{State}
-use Rattle.job_text.specs.declared.drafts.State.TheVariants.{Headed}
-use Rattle.job_text.specs.declared.keys.Part.{Part}
-use Rattle.job_text.specs.declared.keys.Part.TheVariants as part
-use Rattle.job_text.specs.Rules.{rule_of, row_of, table, is_between}
+use Rattle.job_text.specs.declared.drafts.Stage.{Stage}
+use Rattle.job_text.specs.declared.drafts.Stage.TheVariants.{Headed}
+use Rattle.job_text.specs.declared.keys.JobPart.{JobPart}
+use Rattle.job_text.specs.declared.keys.JobPart.TheVariants as part
+use Rattle.job_text.specs.Rules.{rule_of, rule_of_key, table, is_part_between}
 use Rattle.job_text.specs.Drafts.{Drafted, last_script, with_session, with_command}
 use Rattle.job_text.specs.Judge.{line_made, worded, ruled, made, drafted, has_room}
 use Rattle.job_text.specs.Samples.{number_behind, kind_chosen, index_chosen, lowered, word_at, command_line, session_command, session_lines}
@@ -75,7 +75,7 @@ one_more d scripts script c =
     ∙ set-append_seam scripts script [] (script ++ c ∷ []))
 
 -- a draft in a session whose last script this is
-abbrev running : Drafted → List (List Command) → List Command → State
+abbrev running : Drafted → List (List Command) → List Command → Stage
 running d scripts script = Headed (progress part.Session (scripted d (scripts ++ script ∷ [])))
 
 commands_lead : (d : Drafted) (scripts : List (List Command)) (line : ℕ → List ℕ) (command : ℕ → Command) (n : ℕ) → n ≤ 4096 →
@@ -132,13 +132,13 @@ pub script_length : (s : SpaceType) (start : List ℕ) (x : ℕ) → length (ses
 unfolding session_script
 script_length s start x = length-map-range_with_len (chosen_command s start x) 0 64
 
-session_worded : (p : Part) (d : Drafted) → is_between part.Head part.Session p ≡ true → nat_lt (length d.scripts) 16 ≡ true →
+session_worded : (p : JobPart) (d : Drafted) → is_part_between part.Head part.Session p ≡ true → nat_lt (length d.scripts) 16 ≡ true →
     worded (codes "session" ∷ []) (progress p d) ≡ Ok (progress part.Session (with_session d))
-unfolding worded ruled rule_of row_of table made drafted has_room
+unfolding worded ruled rule_of rule_of_key table made drafted has_room
 session_worded p d placed room = rw (placed, room) refl
 
-pub session_leads : (p : Part) (d : Drafted) (scripts : List (List Command)) (start : List ℕ) (x : ℕ) → IsSpace d.space → IsWord d.space start →
-    is_between part.Head part.Session p ≡ true → nat_lt (length scripts) 16 ≡ true →
+pub session_leads : (p : JobPart) (d : Drafted) (scripts : List (List Command)) (start : List ℕ) (x : ℕ) → IsSpace d.space → IsWord d.space start →
+    is_part_between part.Head part.Session p ≡ true → nat_lt (length scripts) 16 ≡ true →
     after_lines (session_lines d.space start x) (Headed (progress p (scripted d scripts)))
     ≡ Ok (Headed (progress part.Session (scripted d (scripts ++ session_script d.space start x ∷ []))))
 unfolding session_lines session_script

@@ -12,6 +12,10 @@ use Rattle.job_text.specs.declared.commands.Ask.{Ask}
 use Rattle.job_text.specs.declared.commands.Ask.TheVariants.{Demazure, Tops, Reflect}
 use Rattle.job_text.specs.declared.jobs.Job.{Job}
 
+-- the most bytes of a job's text
+abbrev pub most_job_bytes : ℕ
+most_job_bytes = 1048576
+
 -- a command speaks of a word of the space, and of an arrow or an index of its type; `done` of the whole graph
 abbrev pub IsCommand : SpaceType → Command → Type 0
 IsCommand s (Add c) = c < size s

@@ -29,16 +29,16 @@ use Rattle.job_text.specs.declared.keys.Key.TheVariants.{Typing, Order, Shape, S
 use Rattle.job_text.specs.declared.keys.Key.TheVariants.{Lower, Raise, Look, Eps, Phi, Done, Demazure, Tops, Reflect}
 use Rattle.job_text.specs.declared.keys.Version.{Version}
 use Rattle.job_text.specs.declared.keys.Version.TheVariants.{One, Two}
-use Rattle.job_text.specs.declared.keys.Part.TheVariants as part
-use Rattle.job_text.specs.declared.keys.Rule.{Rule}
+use Rattle.job_text.specs.declared.keys.JobPart.TheVariants as part
+use Rattle.job_text.specs.declared.keys.KeyRule.{KeyRule}
 use Rattle.job_text.specs.declared.drafts.TypedHead.{TypedHead}
 use Rattle.job_text.specs.declared.drafts.Known.{Known}
 use Rattle.job_text.specs.declared.drafts.Known.TheVariants.{Nothing, Typed, Begun}
 use Rattle.job_text.specs.declared.drafts.Progress.{Progress}
-use Rattle.job_text.specs.declared.drafts.State.{State}
-use Rattle.job_text.specs.declared.drafts.State.TheVariants.{Unread, Headed}
+use Rattle.job_text.specs.declared.drafts.Stage.{Stage}
+use Rattle.job_text.specs.declared.drafts.Stage.TheVariants.{Unread, Headed}
 use Rattle.job_text.specs.Faults.{Refusal}
-use Rattle.job_text.specs.Rules.{rule_of, is_count, is_between}
+use Rattle.job_text.specs.Rules.{rule_of, is_count, is_part_between}
 use Rattle.job_text.specs.declared.jobs.Job.{Job}
 use Rattle.job_text.specs.Drafts.{Drafted, order_of, fresh, last_script, with_start, with_cells, with_session, with_command, with_ask, job_of}
 
@@ -96,8 +96,8 @@ abbrev pub ranked : ℕ → Kind → Option CartanType
 ranked rank k = if nat_le (least_rank k) rank && nat_le rank 8 then Some (record { kind = k; rank = rank }) else None
 
 -- numbers and indices
-abbrev pub numbered : List ℕ → Judged ℕ
-numbered text = found BadNumber (number_of text)
+abbrev pub number_read : List ℕ → Judged ℕ
+number_read text = found BadNumber (number_of text)
 
 abbrev pub all_numbered : List (List ℕ) → Judged (List ℕ)
 all_numbered args = found BadNumber (all_some number_of args)
@@ -106,7 +106,7 @@ abbrev pub is_index : SpaceType → ℕ → Bool
 is_index s i = nat_le 1 i && nat_le i s.cartan.rank
 
 abbrev pub indexed : SpaceType → List ℕ → Judged ℕ
-indexed s text = and_then (numbered text) (λ i. unless (is_index s i) BadIndex (Ok i))
+indexed s text = and_then (number_read text) (λ i. unless (is_index s i) BadIndex (Ok i))
 
 abbrev pub all_indexed : SpaceType → List (List ℕ) → Judged (List ℕ)
 all_indexed s args = and_then (all_numbered args) (λ list. unless (list_all (is_index s) list) BadIndex (Ok list))
@@ -115,8 +115,8 @@ all_indexed s args = and_then (all_numbered args) (λ list. unless (list_all (is
 abbrev pub factored : List (List ℕ) → Judged (List Factor)
 factored args = found BadSpace (all_some factor_of args)
 
-abbrev pub spaced : TensorOrder → List (List ℕ) → CartanType → Judged SpaceType
-spaced o args t = and_then (factored args) (λ factors. ok_map (ordered o) (found_ok BadSpace (space_of t factors)))
+abbrev pub space_read : TensorOrder → List (List ℕ) → CartanType → Judged SpaceType
+space_read o args t = and_then (factored args) (λ factors. ok_map (ordered o) (found_ok BadSpace (space_of t factors)))
 
 -- the shape with rows of these lengths, in a tensor order
 abbrev pub shaped : TensorOrder → CartanType → List (List ℕ) → Judged ShapeType
@@ -138,7 +138,7 @@ arrow down i = record { down = down; index = i }
 
 -- the draft with a number of cells
 abbrev pub celled : List (List ℕ) → Drafted → Judged Drafted
-celled args d = and_then (numbered (at args 0)) (λ n. unless (nat_le 1 n && nat_le n most_cells) CellsRange (Ok (with_cells d n)))
+celled args d = and_then (number_read (at args 0)) (λ n. unless (nat_le 1 n && nat_le n most_cells) CellsRange (Ok (with_cells d n)))
 
 -- what the line of a key word makes of a draft
 unfoldable pub drafted : Key → List (List ℕ) → Drafted → Judged Drafted
@@ -171,12 +171,12 @@ unfoldable pub placed : Key → List (List ℕ) → TypedHead → Judged Known
 placed Order args head = ok_map (λ o. Typed (with_order head o)) (found BadSpace (order_named (at args 0)))
 placed Shape args head =
     ok_map (λ shape. Begun (fresh (shape_space shape) (Some (code_of (shape_space shape) (top_word shape))))) (shaped (order_of head) head.cartan args)
-placed Space args head = ok_map (λ s. Begun (fresh s None)) (spaced (order_of head) args head.cartan)
+placed Space args head = ok_map (λ s. Begun (fresh s None)) (space_read (order_of head) args head.cartan)
 placed _ args head = Err Misplaced
 
 -- the type that the line `type` gives
 abbrev pub typed : List (List ℕ) → Judged CartanType
-typed args = and_then (numbered (at args 1)) (λ rank. found RankRange (option_and_then (ranked rank) (kind_of (at args 0))))
+typed args = and_then (number_read (at args 1)) (λ rank. found RankRange (option_and_then (ranked rank) (kind_of (at args 0))))
 
 -- what the line of a key word makes of what is known
 unfoldable pub made : Key → List (List ℕ) → Known → Judged Known
@@ -204,8 +204,8 @@ is_second Cells (Begun d) = is_some d.cells
 is_second Order (Typed head) = is_some head.order
 is_second _ _ = false
 
-abbrev pub is_placed : Rule → Progress → Bool
-is_placed r p = is_between r.first r.last p.part && not (is_second r.key p.known)
+abbrev pub is_placed : KeyRule → Progress → Bool
+is_placed r p = is_part_between r.first r.last p.part && not (is_second r.key p.known)
 
 -- behind `look` stands f or e
 abbrev pub is_formed : Key → List (List ℕ) → Bool
@@ -213,10 +213,10 @@ is_formed Look args = bytes_eq (at args 0) (codes "f") || bytes_eq (at args 0) (
 is_formed _ args = true
 
 -- the line of a key word, its faults in their order; behind it stands the part that its rule names
-abbrev pub behind : Rule → Progress → Known → Progress
+abbrev pub behind : KeyRule → Progress → Known → Progress
 behind r p known = record { version = p.version; part = r.next; known = known }
 
-unfoldable pub ruled : Rule → List (List ℕ) → Progress → Judged Progress
+unfoldable pub ruled : KeyRule → List (List ℕ) → Progress → Judged Progress
 ruled r args p =
     unless (is_count r.count (length args) && is_formed r.key args) UnknownLine
     (unless (is_placed r p) Misplaced
@@ -241,27 +241,27 @@ version_of line =
 abbrev pub begun : Version → Progress
 begun version = record { version = version; part = part.Opening; known = Nothing }
 
-abbrev pub stepped : List ℕ → State → Judged State
+abbrev pub stepped : List ℕ → Stage → Judged Stage
 stepped line Unread = ok_map (λ version. Headed (begun version)) (found BadHeader (version_of line))
 stepped line (Headed p) = ok_map (λ after. Headed after) (worded (words line) p)
 
--- what a line makes of a state
-unfoldable pub line_made : List ℕ → State → Judged State
-line_made line state = unless (are_printed line) BadByte (stepped line state)
+-- what a line makes of a stage
+unfoldable pub line_made : List ℕ → Stage → Judged Stage
+line_made line stage = unless (are_printed line) BadByte (stepped line stage)
 
 -- what is known behind the last line gives
 abbrev pub finished : Known → Judged Job
 finished (Begun d) = unless (is_some d.top || not (length d.starts == 0)) Missing (Ok (job_of d))
 finished _ = Err Missing
 
-unfoldable pub at_end : State → Judged Job
+unfoldable pub at_end : Stage → Judged Job
 at_end Unread = Err BadHeader
 at_end (Headed p) = finished p.known
 
 -- what stands behind the last end of a line: nothing, or a line that is not ended
-abbrev pub tail_judged : List ℕ → State → Judged Job
-tail_judged [] state = at_end state
-tail_judged (byte ∷ bytes) state = Err BadByte
+abbrev pub tail_judged : List ℕ → Stage → Judged Job
+tail_judged [] stage = at_end stage
+tail_judged (byte ∷ bytes) stage = Err BadByte
 
 -- a judgement of a line, with its number
 abbrev pub at_line : {T : Type 0} → ℕ → Judged T → Result T Refusal
@@ -269,11 +269,11 @@ at_line n (Ok x) = Ok x
 at_line n (Err why) = Err (record { line = n; why = why })
 
 -- the lines of a text from the n-th on; each piece but the last is a line
-abbrev pub judged_from : ℕ → State → List (List ℕ) → Result Job Refusal
-judged_from n state [] = Err (record { line = n; why = BadByte })
-judged_from n state (last ∷ []) = at_line n (tail_judged last state)
-judged_from n state (line ∷ next ∷ rest) =
-    and_then (at_line n (line_made line state)) (λ after. judged_from (n + 1) after (next ∷ rest))
+abbrev pub judged_from : ℕ → Stage → List (List ℕ) → Result Job Refusal
+judged_from n stage [] = Err (record { line = n; why = BadByte })
+judged_from n stage (last ∷ []) = at_line n (tail_judged last stage)
+judged_from n stage (line ∷ next ∷ rest) =
+    and_then (at_line n (line_made line stage)) (λ after. judged_from (n + 1) after (next ∷ rest))
 
 -- the text of a job
 unfoldable pub judge : List ℕ → Result Job Refusal

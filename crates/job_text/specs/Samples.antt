@@ -14,6 +14,7 @@ use Rattle.tableau_reading.specs.Shapes.{tableau_shape, shape_space}
 use Rattle.tableau_reading.specs.Readings.{top_word}
 use Rattle.tableau_reading.specs.Texts.{word_text}
 use Rattle.job_text.specs.declared.jobs.Job.{Job}
+use Rattle.job_text.specs.Jobs.{most_job_bytes}
 use Rattle.job_text.specs.Judge.{judge}
 
 -- what stands between the first line and the first session, the space that these lines give, and the first start, by digits
@@ -131,4 +132,4 @@ SamplesAreJobs = (number : ℕ) → (j : Job) × IsSampleJob number j
 
 -- no sample has more bytes than a job may have
 abbrev pub SamplesAreShort : Type 0
-SamplesAreShort = (number : ℕ) → length (sample number) ≤ 1048576
+SamplesAreShort = (number : ℕ) → length (sample number) ≤ most_job_bytes

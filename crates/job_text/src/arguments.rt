@@ -96,8 +96,8 @@ impl Factors {
 }
 
 /// The number that a word is.
-pub(crate) fn numbered(word: &[u8]) -> Result<u32, Stop>
-    ensures { Gives result (spec.numbered word.now) }
+pub(crate) fn number_read(word: &[u8]) -> Result<u32, Stop>
+    ensures { Gives result (spec.number_read word.now) }
 {
     match number_of(word) {
         Some(number) => Ok(number),
@@ -127,7 +127,7 @@ pub(crate) fn indexed(space: &Space, word: &[u8]) -> Result<u8, Stop>
     ensures given { Gives result (spec.indexed space.now word.now) }
     ensures index { IfOk result (HasIndex space.now.cartan) }
 {
-    let number = numbered(word)?;
+    let number = number_read(word)?;
     if !is_index(space, number) {
         return Err(Stop::Why(JobWhy::BadIndex));
     }
@@ -214,7 +214,7 @@ fn ranked(rank: u32, kind: Kind) -> Option<Cartan>
 pub(crate) fn typed(text: &[u8]) -> Result<Cartan, Stop>
     ensures { Gives result (spec.typed (words text.now)) }
 {
-    let rank = numbered(first(behind(text)))?;
+    let rank = number_read(first(behind(text)))?;
     let Some(kind) = kind_of(first(text)) else {
         return Err(Stop::Why(JobWhy::RankRange));
     };
@@ -284,13 +284,13 @@ fn factored(alloc: Global, text: &[u8]) -> Result<Factors, Stop>
 }
 
 /// The space whose factors the words of a text name, in a tensor order.
-pub(crate) fn spaced(
+pub(crate) fn space_read(
     alloc: Global,
     text: &[u8],
     cartan: Cartan,
     order: Order,
 ) -> Result<Space, Stop>
-    ensures given { Gives result (spec.spaced order (words text.now) cartan) }
+    ensures given { Gives result (spec.space_read order (words text.now) cartan) }
     ensures space { IfOk result IsSpace }
 {
     let factors = factored(alloc, text)?;

@@ -14,7 +14,7 @@ ghost use Rattle.job_text.specs.Judge as spec;
 use crate::commands::{Ask, Asks, Command, Indices, Script, Scripts};
 use crate::faults::Stop;
 use crate::jobs::Job;
-use crate::keys::{Part, Version};
+use crate::keys::{JobPart, Version};
 use crate::{arguments, roots};
 use crystal_cartan::Cartan;
 use std::alloc::{AllocError, Global};
@@ -75,13 +75,13 @@ pub(crate) enum Known {
 #[derive(Debug, Drop)]
 pub(crate) struct Progress {
     pub version: Version,
-    pub part: Part,
+    pub part: JobPart,
     pub known: Known,
 }
 
 /// How far the reading has come.
 #[derive(Debug, Drop)]
-pub(crate) enum State {
+pub(crate) enum Stage {
     /// Before the header.
     Unread,
     /// Behind the header.

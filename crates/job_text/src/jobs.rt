@@ -1,17 +1,20 @@
 //! Jobs, and the reader of their text.
 ghost use Rattle.std.specs.Prelude.{◌≡◌, ◌≤◌, IfOk, length};
 ghost use Rattle.text_pieces.specs.Pieces.{words};
-ghost use Rattle.job_text.specs.Jobs.{IsJob};
+ghost use Rattle.job_text.specs.Jobs.{IsJob, most_job_bytes};
 ghost use Rattle.job_text.specs.Outcomes.{Gives, GivesAtLine};
 ghost use Rattle.job_text.specs.Judge as spec;
 
 use crate::commands::{Asks, Scripts};
-use crate::drafts::{Known, State};
+use crate::drafts::{Known, Stage};
 use crate::faults::{JobFault, JobWhy, Stop};
 use crate::lines::line_made;
 use std::alloc::Global;
 use tensor_words::{Codes, World};
 use text_pieces::cut;
+
+/// The most bytes of a job's text.
+pub const MOST_JOB_BYTES: usize = 1_048_576;
 
 /// A job that was read.
 #[derive(Debug, Drop)]
@@ -26,24 +29,24 @@ pub struct Job {
     pub asks: Asks,
 }
 
-/// Reads a job of at most 1,048,576 bytes, or tells the first line with a fault and its first fault. A job that
+/// Reads a job of at most `MOST_JOB_BYTES` bytes, or tells the first line with a fault and its first fault. A job that
 /// lacks its type, its space or a start has the fault `Missing` at the line after the last.
 #[tactic(auto, unfolding(crate::specs::Judge::judge))]
 pub fn read_job(alloc: Global, bytes: &[u8]) -> Result<Job, JobFault>
-    requires { length bytes.now ≤ 1048576 }
+    requires { length bytes.now ≤ most_job_bytes }
     ensures told { GivesAtLine result (spec.judge bytes.now) }
     ensures job { IfOk result IsJob }
 {
-    let mut state = State::Unread;
+    let mut stage = Stage::Unread;
     let mut rest = bytes;
     let mut line = 1;
     'lines: loop {
         let (text, behind) = cut(rest, b'\n');
         let Some(next) = behind else {
-            return tail_at(alloc, line, text, state);
+            return tail_at(alloc, line, text, stage);
         };
-        match line_at(alloc, line, text, state) {
-            Ok(after) => state = after,
+        match line_at(alloc, line, text, stage) {
+            Ok(after) => stage = after,
             Err(fault) => return Err(fault),
         }
         rest = next;
@@ -51,19 +54,19 @@ pub fn read_job(alloc: Global, bytes: &[u8]) -> Result<Job, JobFault>
     }
 }
 
-/// What a line with this number makes of a state.
-fn line_at(alloc: Global, line: u32, text: &[u8], state: State) -> Result<State, JobFault>
-    ensures { GivesAtLine result (spec.at_line line (spec.line_made text.now state)) }
+/// What a line with this number makes of a stage.
+fn line_at(alloc: Global, line: u32, text: &[u8], stage: Stage) -> Result<Stage, JobFault>
+    ensures { GivesAtLine result (spec.at_line line (spec.line_made text.now stage)) }
 {
-    match line_made(alloc, text, state) {
+    match line_made(alloc, text, stage) {
         Ok(after) => Ok(after),
         Err(stop) => Err(stop.at_line(line)),
     }
 }
 
-/// What stands behind the last end of a line, with this number, makes of a state.
-fn tail_at(alloc: Global, line: u32, text: &[u8], state: State) -> Result<Job, JobFault>
-    ensures told { GivesAtLine result (spec.at_line line (spec.tail_judged text.now state)) }
+/// What stands behind the last end of a line, with this number, makes of a stage.
+fn tail_at(alloc: Global, line: u32, text: &[u8], stage: Stage) -> Result<Job, JobFault>
+    ensures told { GivesAtLine result (spec.at_line line (spec.tail_judged text.now stage)) }
     ensures job { IfOk result IsJob }
 {
     if !text.is_empty() {
@@ -72,21 +75,21 @@ fn tail_at(alloc: Global, line: u32, text: &[u8], state: State) -> Result<Job, J
             why: JobWhy::BadByte,
         });
     }
-    match at_end(alloc, state) {
+    match at_end(alloc, stage) {
         Ok(job) => Ok(job),
         Err(stop) => Err(stop.at_line(line)),
     }
 }
 
-/// What a state gives behind the last line.
+/// What a stage gives behind the last line.
 #[tactic(auto, unfolding(crate::specs::Judge::at_end))]
-fn at_end(alloc: Global, state: State) -> Result<Job, Stop>
-    ensures given { Gives result (spec.at_end state) }
+fn at_end(alloc: Global, stage: Stage) -> Result<Job, Stop>
+    ensures given { Gives result (spec.at_end stage) }
     ensures job { IfOk result IsJob }
 {
-    match state {
-        State::Unread => Err(Stop::Why(JobWhy::BadHeader)),
-        State::Headed(progress) => finished(alloc, progress.known),
+    match stage {
+        Stage::Unread => Err(Stop::Why(JobWhy::BadHeader)),
+        Stage::Headed(progress) => finished(alloc, progress.known),
     }
 }
 

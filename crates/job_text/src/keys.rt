@@ -1,11 +1,11 @@
 //! The key words of a job: the version that has each, how many words follow it, where its line may stand, and which
 //! part follows.
 ghost use Rattle.std.specs.Prelude.{◌≡◌, IfSome};
-ghost use Rattle.job_text.specs.Rules.{HasIndices, command_rule, ask_rule, row_of, rule_of, is_taken, is_count, part_place, is_between};
+ghost use Rattle.job_text.specs.Rules.{HasIndices, command_rule, ask_rule, rule_of_key, rule_of, is_taken, is_count, part_place, is_part_between};
 
-use Count::{AtLeast, Exactly};
-use Part::{Asks, Head, Opening, Session, Typed};
+use JobPart::{Asks, Head, Opening, Session, Typed};
 use Version::{One, Two};
+use WordsBehind::{AtLeast, Exactly};
 
 /// The version of a job, which its header tells.
 #[derive(Clone, Copy, Debug, PartialEq, Eq)]
@@ -40,7 +40,7 @@ pub(crate) enum Key {
 
 /// The parts of a job, in their order.
 #[derive(Clone, Copy, Debug, PartialEq, Eq)]
-pub(crate) enum Part {
+pub(crate) enum JobPart {
     Opening,
     Typed,
     Head,
@@ -50,7 +50,7 @@ pub(crate) enum Part {
 
 /// How many words follow a key word.
 #[derive(Clone, Copy, Debug, PartialEq, Eq)]
-pub(crate) enum Count {
+pub(crate) enum WordsBehind {
     Exactly(u32),
     AtLeast(u32),
 }
@@ -58,22 +58,22 @@ pub(crate) enum Count {
 /// The rule of a key word: the first version that has it, how many words follow it, the first and the last part in
 /// which its line may stand, and the part behind that line.
 #[derive(Clone, Copy, Debug, PartialEq, Eq)]
-pub(crate) struct Rule {
+pub(crate) struct KeyRule {
     pub key: Key,
     pub since: Version,
-    pub count: Count,
-    pub first: Part,
-    pub last: Part,
-    pub next: Part,
+    pub count: WordsBehind,
+    pub first: JobPart,
+    pub last: JobPart,
+    pub next: JobPart,
 }
 
 /// The rule of a key word of this version.
 #[tactic(auto, unfolding(crate::specs::Rules::rule_of))]
-pub(crate) fn rule_of(version: Version, word: &[u8]) -> Option<Rule>
+pub(crate) fn rule_of(version: Version, word: &[u8]) -> Option<KeyRule>
     ensures rule { result ≡ rule_of version word.now }
     ensures indices { IfSome result HasIndices }
 {
-    let rule = row_of(word)?;
+    let rule = rule_of_key(word)?;
     if !is_taken(rule.since, version) {
         return None;
     }
@@ -91,53 +91,60 @@ fn is_taken(since: Version, version: Version) -> bool
 }
 
 /// The rule of a key word, whatever the version.
-#[tactic(auto, unfolding(crate::specs::Rules::row_of, crate::specs::Rules::table))]
-fn row_of(word: &[u8]) -> Option<Rule>
-    ensures rule { result ≡ row_of word.now }
+#[tactic(auto, unfolding(crate::specs::Rules::rule_of_key, crate::specs::Rules::table))]
+fn rule_of_key(word: &[u8]) -> Option<KeyRule>
+    ensures rule { result ≡ rule_of_key word.now }
     ensures indices { IfSome result HasIndices }
 {
     Some(match word {
-        b"type" => row(Key::Typing, One, Exactly(2), Opening, Opening, Typed),
-        b"order" => row(Key::Order, Two, Exactly(1), Typed, Typed, Typed),
-        b"shape" => row(Key::Shape, One, AtLeast(1), Typed, Typed, Head),
-        b"space" => row(Key::Space, One, AtLeast(1), Typed, Typed, Head),
-        b"start" => row(Key::Start, One, AtLeast(1), Head, Head, Head),
-        b"cells" => row(Key::Cells, One, Exactly(1), Head, Head, Head),
-        b"session" => row(Key::Session, One, Exactly(0), Head, Session, Session),
-        b"add" => command_row(Key::Add, AtLeast(1)),
-        b"find" => command_row(Key::Find, AtLeast(1)),
-        b"wt" => command_row(Key::Wt, AtLeast(1)),
-        b"f" => command_row(Key::Lower, AtLeast(2)),
-        b"e" => command_row(Key::Raise, AtLeast(2)),
-        b"eps" => command_row(Key::Eps, AtLeast(2)),
-        b"phi" => command_row(Key::Phi, AtLeast(2)),
-        b"look" => command_row(Key::Look, AtLeast(3)),
-        b"done" => row(Key::Done, Two, Exactly(0), Session, Session, Session),
-        b"demazure" => ask_row(Key::Demazure, AtLeast(1)),
-        b"tops" => ask_row(Key::Tops, AtLeast(1)),
-        b"reflect" => ask_row(Key::Reflect, Exactly(1)),
+        b"type" => key_rule(Key::Typing, One, Exactly(2), Opening, Opening, Typed),
+        b"order" => key_rule(Key::Order, Two, Exactly(1), Typed, Typed, Typed),
+        b"shape" => key_rule(Key::Shape, One, AtLeast(1), Typed, Typed, Head),
+        b"space" => key_rule(Key::Space, One, AtLeast(1), Typed, Typed, Head),
+        b"start" => key_rule(Key::Start, One, AtLeast(1), Head, Head, Head),
+        b"cells" => key_rule(Key::Cells, One, Exactly(1), Head, Head, Head),
+        b"session" => key_rule(Key::Session, One, Exactly(0), Head, Session, Session),
+        b"add" => command_rule(Key::Add, AtLeast(1)),
+        b"find" => command_rule(Key::Find, AtLeast(1)),
+        b"wt" => command_rule(Key::Wt, AtLeast(1)),
+        b"f" => command_rule(Key::Lower, AtLeast(2)),
+        b"e" => command_rule(Key::Raise, AtLeast(2)),
+        b"eps" => command_rule(Key::Eps, AtLeast(2)),
+        b"phi" => command_rule(Key::Phi, AtLeast(2)),
+        b"look" => command_rule(Key::Look, AtLeast(3)),
+        b"done" => key_rule(Key::Done, Two, Exactly(0), Session, Session, Session),
+        b"demazure" => ask_rule(Key::Demazure, AtLeast(1)),
+        b"tops" => ask_rule(Key::Tops, AtLeast(1)),
+        b"reflect" => ask_rule(Key::Reflect, Exactly(1)),
         _ => return None,
     })
 }
 
 /// The rule of a command that every version has.
-fn command_row(key: Key, count: Count) -> Rule
+fn command_rule(key: Key, count: WordsBehind) -> KeyRule
     ensures { result ≡ command_rule key count }
 {
-    row(key, One, count, Session, Session, Session)
+    key_rule(key, One, count, Session, Session, Session)
 }
 
 /// The rule of an ask.
-fn ask_row(key: Key, count: Count) -> Rule
+fn ask_rule(key: Key, count: WordsBehind) -> KeyRule
     ensures { result ≡ ask_rule key count }
 {
-    row(key, One, count, Head, Asks, Asks)
+    key_rule(key, One, count, Head, Asks, Asks)
 }
 
-fn row(key: Key, since: Version, count: Count, first: Part, last: Part, next: Part) -> Rule
+fn key_rule(
+    key: Key,
+    since: Version,
+    count: WordsBehind,
+    first: JobPart,
+    last: JobPart,
+    next: JobPart,
+) -> KeyRule
     ensures { result ≡ record { key = key; since = since; count = count; first = first; last = last; next = next } }
 {
-    Rule {
+    KeyRule {
         key,
         since,
         count,
@@ -148,17 +155,17 @@ fn row(key: Key, since: Version, count: Count, first: Part, last: Part, next: Pa
 }
 
 /// Whether so many words may follow.
-pub(crate) fn is_count(wanted: Count, count: usize) -> bool
+pub(crate) fn is_count(wanted: WordsBehind, count: usize) -> bool
     ensures { result ≡ is_count wanted count }
 {
     match wanted {
-        Count::Exactly(number) => count == number as usize,
-        Count::AtLeast(number) => number as usize <= count,
+        WordsBehind::Exactly(number) => count == number as usize,
+        WordsBehind::AtLeast(number) => number as usize <= count,
     }
 }
 
 /// The place of a part in the order of parts.
-fn part_place(part: Part) -> u8
+fn part_place(part: JobPart) -> u8
     ensures { result ≡ part_place part }
 {
     match part {
@@ -171,8 +178,8 @@ fn part_place(part: Part) -> u8
 }
 
 /// Whether a part is one of those from the first to the last.
-pub(crate) fn is_between(first: Part, last: Part, part: Part) -> bool
-    ensures { result ≡ is_between first last part }
+pub(crate) fn is_part_between(first: JobPart, last: JobPart, part: JobPart) -> bool
+    ensures { result ≡ is_part_between first last part }
 {
     part_place(first) <= part_place(part) && part_place(part) <= part_place(last)
 }

@@ -29,5 +29,5 @@ mod samples;
 
 pub use commands::{Ask, Asks, Command, Indices, Script, Scripts};
 pub use faults::{JobFault, JobWhy};
-pub use jobs::{Job, read_job};
-pub use samples::{sample_job, sample_text, samples_are_jobs};
+pub use jobs::{Job, MOST_JOB_BYTES, read_job};
+pub use samples::{SAMPLE_COMMANDS, SAMPLE_SESSIONS, sample_job, sample_text, samples_are_jobs};

@@ -6,7 +6,7 @@ ghost use Rattle.tableau_reading.specs.Readings.{top_word};
 ghost use Rattle.text_pieces.specs.Pieces.{words};
 ghost use Rattle.job_text.specs.declared.commands.Command.TheVariants as command;
 ghost use Rattle.job_text.specs.declared.keys.Key.TheVariants.{Demazure};
-ghost use Rattle.job_text.specs.declared.drafts.State.TheVariants.{Unread};
+ghost use Rattle.job_text.specs.declared.drafts.Stage.TheVariants.{Unread};
 ghost use Rattle.job_text.specs.Rules.{HasIndices};
 ghost use Rattle.job_text.specs.Drafts.{fresh, last_script};
 ghost use Rattle.job_text.specs.Outcomes.{Gives};
@@ -14,9 +14,9 @@ ghost use Rattle.job_text.specs.Judge as spec;
 
 use crate::arguments;
 use crate::commands::{Ask, Command};
-use crate::drafts::{Draft, Known, Progress, State, TypedHead};
+use crate::drafts::{Draft, Known, Progress, Stage, TypedHead};
 use crate::faults::{JobWhy, Stop};
-use crate::keys::{Key, Part, Rule, Version, is_between, is_count, rule_of};
+use crate::keys::{JobPart, Key, KeyRule, Version, is_count, is_part_between, rule_of};
 use crystal_cartan::Arrow;
 use std::alloc::Global;
 use tableau_reading::Shape;
@@ -34,29 +34,29 @@ const MOST_ASKS: usize = 8;
 
 const MOST_INDICES: usize = 64;
 
-/// What a line makes of a state.
+/// What a line makes of a stage.
 #[tactic(auto, unfolding(crate::specs::Judge::line_made))]
-pub(crate) fn line_made(alloc: Global, line: &[u8], state: State) -> Result<State, Stop>
-    ensures { Gives result (spec.line_made line.now state) }
+pub(crate) fn line_made(alloc: Global, line: &[u8], stage: Stage) -> Result<Stage, Stop>
+    ensures { Gives result (spec.line_made line.now stage) }
 {
     if !are_printed(line) {
         return Err(Stop::Why(JobWhy::BadByte));
     }
-    match state {
-        State::Unread => header_read(line),
-        State::Headed(progress) => {
+    match stage {
+        Stage::Unread => header_read(line),
+        Stage::Headed(progress) => {
             let after = worded(alloc, line, progress)?;
-            Ok(State::Headed(after))
+            Ok(Stage::Headed(after))
         }
     }
 }
 
 /// The first line is a header, and no other.
-fn header_read(line: &[u8]) -> Result<State, Stop>
+fn header_read(line: &[u8]) -> Result<Stage, Stop>
     ensures { Gives result (spec.stepped line.now Unread) }
 {
     match version_of(line) {
-        Some(version) => Ok(State::Headed(begun(version))),
+        Some(version) => Ok(Stage::Headed(begun(version))),
         None => Err(Stop::Why(JobWhy::BadHeader)),
     }
 }
@@ -79,7 +79,7 @@ fn begun(version: Version) -> Progress
 {
     Progress {
         version,
-        part: Part::Opening,
+        part: JobPart::Opening,
         known: Known::Nothing,
     }
 }
@@ -110,7 +110,7 @@ fn is_comment(word: &[u8]) -> bool
 
 /// What the line of a key word makes of the progress, its faults in their order.
 #[tactic(auto, unfolding(crate::specs::Judge::ruled))]
-fn ruled(alloc: Global, text: &[u8], rule: Rule, progress: Progress) -> Result<Progress, Stop>
+fn ruled(alloc: Global, text: &[u8], rule: KeyRule, progress: Progress) -> Result<Progress, Stop>
     requires { HasIndices rule }
     ensures { Gives result (spec.ruled rule (words text.now) progress) }
 {
@@ -165,10 +165,10 @@ fn is_second(key: Key, known: &Known) -> bool
 }
 
 /// Whether the line may stand here.
-fn is_placed(rule: Rule, progress: &Progress) -> bool
+fn is_placed(rule: KeyRule, progress: &Progress) -> bool
     ensures { result ≡ spec.is_placed rule progress.now }
 {
-    is_between(rule.first, rule.last, progress.part) && !is_second(rule.key, &progress.known)
+    is_part_between(rule.first, rule.last, progress.part) && !is_second(rule.key, &progress.known)
 }
 
 /// Whether a draft has room for the line.
@@ -237,7 +237,7 @@ fn placed(alloc: Global, key: Key, text: &[u8], head: TypedHead) -> Result<Known
             Ok(Known::Begun(shape_taken(alloc, shape)))
         }
         Key::Space => {
-            let space = arguments::spaced(alloc, text, head.cartan, head.order())?;
+            let space = arguments::space_read(alloc, text, head.cartan, head.order())?;
             Ok(Known::Begun(Draft::fresh(alloc, space, None)))
         }
         _ => Err(Stop::Why(JobWhy::Misplaced)),
@@ -313,7 +313,7 @@ fn drafted(alloc: Global, key: Key, text: &[u8], draft: Draft) -> Result<Draft, 
 fn cells_given(text: &[u8], draft: Draft) -> Result<Draft, Stop>
     ensures { Gives result (spec.celled (words text.now) draft) }
 {
-    let cells = arguments::numbered(first(text))?;
+    let cells = arguments::number_read(first(text))?;
     if cells < 1 || cells > MOST_CELLS {
         return Err(Stop::Why(JobWhy::CellsRange));
     }

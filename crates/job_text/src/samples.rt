@@ -6,7 +6,7 @@ ghost use Rattle.crystal_streams.specs.Lines.{ended};
 ghost use Rattle.tensor_words.specs.Spaces.{size};
 ghost use Rattle.tensor_words.specs.Codes.{IsWord, word_of};
 ghost use Rattle.job_text.specs.Judge.{judge};
-ghost use Rattle.job_text.specs.Jobs.{IsJob};
+ghost use Rattle.job_text.specs.Jobs.{IsJob, most_job_bytes};
 ghost use Rattle.job_text.specs.Samples.{sample_head, next_number, number_behind, kind_chosen, index_chosen, lowered, index_text, before_word, command_line, session_lines, sample, IsSampleJob, SamplesAreJobs, SamplesAreShort};
 
 use crate::faults::JobFault;
@@ -18,10 +18,10 @@ use tableau_reading::print_word;
 use tensor_words::{Space, Word, word_with};
 
 /// The sessions of a sample.
-const SESSIONS: u32 = 4;
+pub const SAMPLE_SESSIONS: u32 = 4;
 
-/// The commands of each session.
-const COMMANDS: u32 = 64;
+/// The commands of each session of a sample.
+pub const SAMPLE_COMMANDS: u32 = 64;
 
 /// From one number to the next: times MULTIPLIER, and INCREMENT more, modulo 2^64, as in the generator of Knuth's MMIX.
 const MULTIPLIER: u64 = 6_364_136_223_846_793_005;
@@ -51,7 +51,7 @@ pub fn sample_text(alloc: Global, number: u32) -> Result<Vec<u8>, NoMemory>
     let start = word_with(space, head.starts.at(0));
     let mut text = Vec::from_slice(alloc, head_text(number))?;
     let mut last = u64::from(number);
-    'sessions: for _ in 0..SESSIONS {
+    'sessions: for _ in 0..SAMPLE_SESSIONS {
         last = put_session(space, &start, last, &mut text)?;
     }
     Ok(text)
@@ -68,7 +68,7 @@ pub fn sample_job(alloc: Global, number: u32) -> Result<Job, NoMemory>
 
 /// The job of a text that has no fault.
 fn sure_job(alloc: Global, bytes: &[u8]) -> Result<Job, NoMemory>
-    requires short { length bytes.now ≤ 1048576 }
+    requires short { length bytes.now ≤ most_job_bytes }
     requires judged { IsOk (judge bytes.now) }
     ensures told { IfOk result (λ job. judge bytes.now ≡ Ok job) }
     ensures job { IfOk result IsJob }
@@ -108,7 +108,7 @@ fn put_session(
     text.extend_from_slice(b"session\n")?;
     let mut word = *start;
     let mut number = before;
-    'commands: for _ in 0..COMMANDS {
+    'commands: for _ in 0..SAMPLE_COMMANDS {
         number = next_number(number);
         push_line(text, &command_line(space, number, &word))?;
         word = lowered(space, index_chosen(space.cartan(), number), &word);

@@ -11,7 +11,7 @@ use Rattle.parcel_deques.specs.declared.parcel.Slip.{Slip}
 use Rattle.parcel_deques.specs.declared.rule.Hand.{Hand}
 use Rattle.parcel_deques.specs.Lists.{weigh, SameItems}
 use Rattle.parcel_deques.specs.Parcels.{IsOwned, AllBelow, owned_by}
-use Rattle.parcel_deques.specs.Rule.{whole, took, Drained, IsTaking}
+use Rattle.parcel_deques.specs.Rule.{all_shares, took, Drained, IsTaking}
 use Rattle.parcel_deques.specs.Ends.{EndValue}
 use Rattle.parcel_deques.specs.Owners.{OwnValue}
 use Rattle.parcel_deques.specs.Benches.{BenchValue, IsBench, bench_of, passes_taken, pass_taken, HasAll, FoundOwnEmpty}
@@ -101,7 +101,7 @@ module _ (o : OwnValue) (es : List EndValue) (is : IsBench o es) where
       (All-weaker (IsOwned o.hand.deque) (λ (x : Slip). x.tag.owner < length (map (λ (e : EndValue). e.deque) es)) (λ x s. let t : x.tag.owner ≡ o.hand.deque = s in omega arith) o.hand.taken is.owned)
       (passes_within o.hand.deque 0 (length (map (λ (e : EndValue). e.deque) es)) es (omega arith) (ends_here o.hand.deque es is.each))
 
-  pub has_whole : HasAll (bench_of o es) → whole ≤ o.hand.share
+  pub has_whole : HasAll (bench_of o es) → all_shares ≤ o.hand.share
   has_whole all = let m = length_calls es in let n = has_so_many (length es) o.hand.home (λ k b. all k (omega arith)) in let s = is.share in omega arith
 
 -- the first parcel of the own deque is taken, or there is none

@@ -10,7 +10,7 @@ use Rattle.parcel_deques.specs.declared.parcel.Slip.{Slip}
 use Rattle.parcel_deques.specs.declared.rule.Hand.{Hand}
 use Rattle.parcel_deques.specs.Lists.{weigh, SameItems}
 use Rattle.parcel_deques.specs.Parcels.{tag_of, IsOwned, AllOwned}
-use Rattle.parcel_deques.specs.Rule.{whole, founder, loaded, took, cut_left, cut_right, absorbed, spent, AllTagged, FitsDeque, DequeHolds, Drained, IsTaking, IsLoading}
+use Rattle.parcel_deques.specs.Rule.{all_shares, founder, loaded, took, share_kept, share_given, absorbed, spent, AllTagged, FitsDeque, DequeHolds, Drained, IsTaking, IsLoading}
 use Rattle.parcel_deques.proofs.Weights.{weigh-append, weigh-push, weigh-set, weigh-at, weigh-two, weigh_ones, weigh_alone, no_items}
 use Rattle.parcel_deques.proofs.Slips.{tagged_owned, tagged_left, tagged_right, tagged_push}
 
@@ -101,10 +101,10 @@ takes port v live xs items views more few h at = (took v xs, taking_on port v li
 -- where the deque is empty
 module _ (port : ℕ) (v : Hand) (views : List Hand) (h : DequeHolds [] views) (at : get_elem? views port ≡ some v) where
   -- beside the whole share nobody has taken anything
-  others_none : whole ≤ v.share → (g : Slip → ℕ) (j : ℕ) (u : Hand) → j ≢ port → get_elem? views j ≡ some u → weigh g u.taken ≡ 0
+  others_none : all_shares ≤ v.share → (g : Slip → ℕ) (j : ℕ) (u : Hand) → j ≢ port → get_elem? views j ≡ some u → weigh g u.taken ≡ 0
   others_none all g j u other e = ap (weigh g) ((h.fits j u e).idle (let two = weigh-two (λ (w : Hand). w.share) views port j v u at e other in let sum = h.whole_is in omega arith))
 
-  all_taken : v.pushes ≡ true → whole ≤ v.share → SameItems v.taken v.pushed
+  all_taken : v.pushes ≡ true → all_shares ≤ v.share → SameItems v.taken v.pushed
   all_taken may all g = sym (weigh_alone (λ (u : Hand). weigh g u.taken) views port v at (others_none all g)) ∙ h.each g ∙ ap (weigh g) (sym (append-nil h.taken) ∙ sym h.rest ∙ sym ((h.fits port v at).pushes may).1)
 
 pub finds : (port : ℕ) (v : Hand) → Finds DequeHolds port v (Drained v)
@@ -114,15 +114,15 @@ pub finds_few : (port flavor : ℕ) (v : Hand) → flavor ≡ 0 → FindsFew Deq
 finds_few port flavor v first items views few h at = finds port v views (subst (λ (l : List Slip). DequeHolds l views) (no_items items (let m : min flavor 1 ≡ 0 = ap (λ (n : ℕ). min n 1) first in omega arith)) h) at
 
 -- the owner gives a share away
-module _ (port : ℕ) (v : Hand) (deque taker : ℕ) (may : v.pushes ≡ true) (live : 1 < v.share) (number : (deque ≡ v.deque) ⊎ ((whole ≤ v.share) × (v.pushed ≡ []))) (items : List Slip) (views : List Hand) (h : DequeHolds items views) (at : get_elem? views port ≡ some v) where
+module _ (port : ℕ) (v : Hand) (deque taker : ℕ) (may : v.pushes ≡ true) (live : 1 < v.share) (number : (deque ≡ v.deque) ⊎ ((all_shares ≤ v.share) × (v.pushed ≡ []))) (items : List Slip) (views : List Hand) (h : DequeHolds items views) (at : get_elem? views port ≡ some v) where
   -- the number was the deque's, or nothing was pushed yet and nobody else has a share
   fork_tags : AllTagged deque 0 h.pushed
   fork_tags = ⊎_elim (λ (same : deque ≡ v.deque). subst (λ (n : ℕ). AllTagged n 0 h.pushed) (sym (same ∙ (h.fits port v at).deque_is (omega arith))) h.tagged)
-      (λ (new : (whole ≤ v.share) × (v.pushed ≡ [])). subst (AllTagged deque 0) (sym new.1 ∙ ((h.fits port v at).pushes may).1) tt) number
+      (λ (new : (all_shares ≤ v.share) × (v.pushed ≡ [])). subst (AllTagged deque 0) (sym new.1 ∙ ((h.fits port v at).pushes may).1) tt) number
 
   fork_owned : AllOwned deque v.taken
   fork_owned = ⊎_elim (λ (same : deque ≡ v.deque). subst (λ (n : ℕ). AllOwned n v.taken) (sym same) ((h.fits port v at).owned (omega arith)))
-      (λ (new : (whole ≤ v.share) × (v.pushed ≡ [])). subst (AllOwned deque) (sym (none new.1)) (All-nil (IsOwned deque))) number
+      (λ (new : (all_shares ≤ v.share) × (v.pushed ≡ [])). subst (AllOwned deque) (sym (none new.1)) (All-nil (IsOwned deque))) number
     where
       none : v.pushed ≡ [] → v.taken ≡ []
       none empty = no_items v.taken (
@@ -134,18 +134,18 @@ module _ (port : ℕ) (v : Hand) (deque taker : ℕ) (may : v.pushes ≡ true) (
 
   fork_named : (j : ℕ) (u : Hand) → j ≢ port → get_elem? views j ≡ some u → 0 < u.share → u.deque ≡ deque
   fork_named j u other e some_share = ⊎_elim (λ (same : deque ≡ v.deque). (h.fits j u e).deque_is some_share ∙ sym ((h.fits port v at).deque_is (omega arith)) ∙ sym same)
-      (λ (new : (whole ≤ v.share) × (v.pushed ≡ [])). let two = weigh-two (λ (w : Hand). w.share) views port j v u at e other in let sum = h.whole_is in let all = new.0 in absurd (omega arith)) number
+      (λ (new : (all_shares ≤ v.share) × (v.pushed ≡ [])). let two = weigh-two (λ (w : Hand). w.share) views port j v u at e other in let sum = h.whole_is in let all = new.0 in absurd (omega arith)) number
 
-  fork_left : FitsDeque deque h.owner h.pushed port (cut_left deque v)
+  fork_left : FitsDeque deque h.owner h.pushed port (share_kept deque v)
   fork_left = record { pushes = λ _. (h.fits port v at).pushes may; idle = λ none. absurd (omega arith); deque_is = λ _. refl; owned = λ _. fork_owned }
 
-  fork_right : (j : ℕ) → FitsDeque deque h.owner h.pushed j (cut_right deque taker)
+  fork_right : (j : ℕ) → FitsDeque deque h.owner h.pushed j (share_given deque taker)
   fork_right j = record { pushes = λ p. absurd (true≢false (sym p)); idle = λ _. refl; deque_is = λ _. refl; owned = λ _. All-nil (IsOwned deque) }
 
   fork_others : (j : ℕ) (u : Hand) → j ≢ port → get_elem? views j ≡ some u → FitsDeque deque h.owner h.pushed j u
   fork_others j u other e = record { pushes = (h.fits j u e).pushes; idle = (h.fits j u e).idle; deque_is = fork_named j u other e; owned = (h.fits j u e).owned }
 
-  forking_on : DequeHolds items (set views port (cut_left deque v) ++ cut_right deque taker ∷ [])
+  forking_on : DequeHolds items (set views port (share_kept deque v) ++ share_given deque taker ∷ [])
   forking_on = record {
     owner = h.owner;
     deque = deque;
@@ -153,16 +153,16 @@ module _ (port : ℕ) (v : Hand) (deque taker : ℕ) (may : v.pushes ≡ true) (
     taken = h.taken;
     rest = h.rest;
     tagged = fork_tags;
-    whole_is = let step = weigh-set (λ (u : Hand). u.share) views port v (cut_left deque v) at in let more = weigh-push (λ (u : Hand). u.share) (set views port (cut_left deque v)) (cut_right deque taker) in
+    whole_is = let step = weigh-set (λ (u : Hand). u.share) views port v (share_kept deque v) at in let more = weigh-push (λ (u : Hand). u.share) (set views port (share_kept deque v)) (share_given deque taker) in
         let all = h.whole_is in omega arith;
-    each = λ g. let step = weigh-set (λ (u : Hand). weigh g u.taken) views port v (cut_left deque v) at in let more = weigh-push (λ (u : Hand). weigh g u.taken) (set views port (cut_left deque v)) (cut_right deque taker) in
+    each = λ g. let step = weigh-set (λ (u : Hand). weigh g u.taken) views port v (share_kept deque v) at in let more = weigh-push (λ (u : Hand). weigh g u.taken) (set views port (share_kept deque v)) (share_given deque taker) in
         let all = h.each g in omega arith;
-    fits = λ j u e. ⊎_elim (λ (x : get_elem? (set views port (cut_left deque v)) j ≡ some u). fit_set (FitsDeque deque h.owner h.pushed) views port (cut_left deque v) fork_left fork_others j u x)
-        (λ (is : cut_right deque taker ≡ u). subst (λ (w : Hand). FitsDeque deque h.owner h.pushed j w) is (fork_right j)) (at_snoc (set views port (cut_left deque v)) (cut_right deque taker) u j e);
+    fits = λ j u e. ⊎_elim (λ (x : get_elem? (set views port (share_kept deque v)) j ≡ some u). fit_set (FitsDeque deque h.owner h.pushed) views port (share_kept deque v) fork_left fork_others j u x)
+        (λ (is : share_given deque taker ≡ u). subst (λ (w : Hand). FitsDeque deque h.owner h.pushed j w) is (fork_right j)) (at_snoc (set views port (share_kept deque v)) (share_given deque taker) u j e);
   }
 
-pub forks : (port : ℕ) (v : Hand) (deque taker : ℕ) → v.pushes ≡ true → 1 < v.share → (deque ≡ v.deque) ⊎ ((whole ≤ v.share) × (v.pushed ≡ []))
-    → Forks DequeHolds port v (cut_left deque v) (cut_right deque taker)
+pub forks : (port : ℕ) (v : Hand) (deque taker : ℕ) → v.pushes ≡ true → 1 < v.share → (deque ≡ v.deque) ⊎ ((all_shares ≤ v.share) × (v.pushed ≡ []))
+    → Forks DequeHolds port v (share_kept deque v) (share_given deque taker)
 forks port v deque taker may live number items views h at = forking_on port v deque taker may live number items views h at
 
 -- the owner takes a pass in

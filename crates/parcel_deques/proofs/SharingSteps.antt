@@ -7,7 +7,7 @@ use Rattle.std.proofs.lemmas.Option.{none-some, same_Some, slice_get_within, get
 use Rattle.parcel_deques.specs.declared.parcel.Slip.{Slip}
 use Rattle.parcel_deques.specs.declared.rule.Hand.{Hand}
 use Rattle.parcel_deques.specs.Parcels.{IsOwned, AllOwned}
-use Rattle.parcel_deques.specs.Rule.{whole, hand, cut_left, cut_right}
+use Rattle.parcel_deques.specs.Rule.{all_shares, hand, share_kept, share_given}
 use Rattle.parcel_deques.specs.Ends.{DequeId, EndValue}
 use Rattle.parcel_deques.specs.Owners.{OwnValue}
 use Rattle.parcel_deques.specs.Benches.{BenchValue, IsEnd, IsBench, bench_of, gone, away_from, pass_taken, passes_taken}
@@ -51,8 +51,8 @@ sharing_next capacity taker k old now e s g few = by (cases_eq k taker)
     by (inr differ) =
         let cut = (g.away differ).0 in
         let share : now.hand.share ≡ old.hand.share - 1 = ap (λ (v : Hand). v.share) cut in
-        let parts : cut_left old.hand.deque old.hand ≡ hand k (old.hand.share - 1) true [] [] (k ∷ []) =
-        ap (λ (v : Hand). cut_left v.deque (hand v.deque old.hand.share true v.pushed v.taken v.home)) s.hand_is in
+        let parts : share_kept old.hand.deque old.hand ≡ hand k (old.hand.share - 1) true [] [] (k ∷ []) =
+        ap (λ (v : Hand). share_kept v.deque (hand v.deque old.hand.share true v.pushed v.taken v.home)) s.hand_is in
         record {
           capacity_is = g.capacity ∙ s.capacity_is;
           hand_is = cut ∙ parts ∙ ap (λ (n : ℕ). hand k n true [] [] (k ∷ [])) (sym share);
@@ -90,7 +90,7 @@ ends_given growers capacity taker old now ends s g within =
           let long = ap length (deques_kept taker old now ends g) in
           let long_old = length-map old (λ (x : OwnValue). x.deque) in
           let number : (get_or old k o).hand.deque ≡ k = ap (λ (v : Hand). v.deque) (s.each k o (omega arith)).hand_is in
-          ((g.done k o o f (omega arith)).away differ).1 ∙ ap (λ (n : ℕ). Some (cut_right n taker)) number;
+          ((g.done k o o f (omega arith)).away differ).1 ∙ ap (λ (n : ℕ). Some (share_given n taker)) number;
     }
 
 -- an owner and its ends
@@ -107,7 +107,7 @@ module _ (growers capacity k : ℕ) (owns : List OwnValue) (o : OwnValue) (ends 
   ends_many : length ends ≡ growers
   ends_many = sym (length-map ends (λ (e : EndValue). e.deque)) ∙ ap length a.call_is ∙ length-map owns (λ (x : OwnValue). x.deque) ∙ many
 
-  end_pass : (i : ℕ) (f : EndValue) → i < growers → i ≢ k → (get_or ends i f).pass ≡ Some (cut_right i k)
+  end_pass : (i : ℕ) (f : EndValue) → i < growers → i ≢ k → (get_or ends i f).pass ≡ Some (share_given i k)
   end_pass i f in_list differ = let long = length-map owns (λ (x : OwnValue). x.deque) in a.away i f (omega arith) differ
 
   is_end : (i : ℕ) (e : EndValue) → slice_get ends i ≡ Some e → IsEnd o.hand.deque i e
@@ -123,7 +123,7 @@ module _ (growers capacity k : ℕ) (owns : List OwnValue) (o : OwnValue) (ends 
       by v is (inl same) read in_list =
           absurd (none-some v (sym (subst (λ (n : ℕ). (get_or ends n e).pass ≡ None) (sym same) (a.here e)) ∙ ap (λ (x : EndValue). x.pass) read ∙ is))
       by v is (inr differ) read in_list =
-          let cut : cut_right i k ≡ v = same_Some (cut_right i k) v (sym (end_pass i e in_list differ) ∙ ap (λ (x : EndValue). x.pass) read ∙ is) in
+          let cut : share_given i k ≡ v = same_Some (share_given i k) v (sym (end_pass i e in_list differ) ∙ ap (λ (x : EndValue). x.pass) read ∙ is) in
           let taken : [] ≡ v.taken = ap (λ (x : Hand). x.taken) cut in (
             sym (ap (λ (x : Hand). x.deque) cut),
             sym (ap (λ (x : Hand). x.share) cut),
@@ -179,7 +179,7 @@ module _ (growers capacity k : ℕ) (owns : List OwnValue) (o : OwnValue) (ends 
       number = number_is;
       call_is = a.call_is;
       home = home_is;
-      away = away_none o.hand.deque 0 ends (λ i f in_ends differ. let long = ends_many in let number = number_is in (cut_right i k, end_pass i f (omega arith) (λ same. differ (omega arith))));
+      away = away_none o.hand.deque 0 ends (λ i f in_ends differ. let long = ends_many in let number = number_is in (share_given i k, end_pass i f (omega arith) (λ same. differ (omega arith))));
     };
     pushed = ap (λ (v : Hand). v.pushed) s.hand_is;
     taken = ap₂ (λ (l m : List Slip). l ++ m) taken_is (passes_none ends (λ i f in_ends. pass_none i f (omega (arith, ends_many)) (cases_eq i k)));
@@ -211,7 +211,7 @@ are_new growers capacity owns lists bs s ends m = record {
 }
 
 -- one deque more
-pub open_more : (n capacity : ℕ) (owns : List OwnValue) (o : OwnValue) → AreSharing n capacity 0 owns → o.capacity ≡ capacity → o.hand ≡ hand n whole true [] [] (n ∷ []) → AreSharing (n + 1) capacity 0 (owns ++ o ∷ [])
+pub open_more : (n capacity : ℕ) (owns : List OwnValue) (o : OwnValue) → AreSharing n capacity 0 owns → o.capacity ≡ capacity → o.hand ≡ hand n all_shares true [] [] (n ∷ []) → AreSharing (n + 1) capacity 0 (owns ++ o ∷ [])
 open_more n capacity owns o s room is = record {
   many = let many = s.many in let long = length_push owns o in omega arith;
   each = λ k d within. by k d within (cases_eq k n);
@@ -219,7 +219,7 @@ open_more n capacity owns o s room is = record {
   where
     first : IsSharing capacity 0 n o
     first =
-        let share : o.hand.share ≡ whole = ap (λ (v : Hand). v.share) is in
+        let share : o.hand.share ≡ all_shares = ap (λ (v : Hand). v.share) is in
         record {
           capacity_is = room;
           hand_is = is ∙ ap (λ (m : ℕ). hand n m true [] [] (n ∷ [])) (sym share);

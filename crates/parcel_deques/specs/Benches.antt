@@ -3,7 +3,7 @@ use Rattle.std.specs.Prelude.{ℕ, suc, ◌+◌, ◌<◌, ◌≤◌, ◌≡◌, 
 use Rattle.parcel_deques.specs.declared.parcel.Slip.{Slip}
 use Rattle.parcel_deques.specs.declared.rule.Hand.{Hand}
 use Rattle.parcel_deques.specs.Parcels.{AllOwned, owned_by}
-use Rattle.parcel_deques.specs.Rule.{whole, WasEmpty}
+use Rattle.parcel_deques.specs.Rule.{all_shares, WasEmpty}
 use Rattle.parcel_deques.specs.Ends.{DequeId, EndValue}
 use Rattle.parcel_deques.specs.Owners.{OwnValue}
 
@@ -52,7 +52,7 @@ pub record IsBench (o : OwnValue) (es : List EndValue) : Type 0 where
   pub few : length es ≤ 16
   pub within : o.hand.deque < length es
   pub pushes : o.hand.pushes ≡ true
-  pub share : o.hand.share + length es ≡ whole + length o.hand.home
+  pub share : o.hand.share + length es ≡ all_shares + length o.hand.home
   pub home : Contains o.hand.home o.hand.deque
   pub owned : AllOwned o.hand.deque o.hand.taken
   pub deque : (e : EndValue) → slice_get es o.hand.deque ≡ Some e → e.deque ≡ o.deque

@@ -18,9 +18,9 @@ pub record EndValue : Type 0 where
   pub pass : Option Hand
   pub known : ℕ
 
-abbrev pub seen : Option (Pass Slip Hand Global) → Option Hand
-seen None = None
-seen (Some p) = Some (view p)
+abbrev pub hand_of : Option (Pass Slip Hand Global) → Option Hand
+hand_of None = None
+hand_of (Some p) = Some (view p)
 
 abbrev pub known_left : Option (Pass Slip Hand Global) → ℕ
 known_left None = 0

@@ -8,15 +8,15 @@ use Rattle.parcel_deques.specs.Lists.{weigh, SameItems}
 use Rattle.parcel_deques.specs.Parcels.{tag_of, AllOwned}
 
 -- the shares of all passes of a deque together
-abbrev pub whole : ℕ
-whole = 16
+abbrev pub all_shares : ℕ
+all_shares = 16
 
 abbrev pub hand : ℕ → ℕ → Bool → List Slip → List Slip → List ℕ → Hand
 hand deque share pushes pushed taken home = record { deque = deque; share = share; pushes = pushes; pushed = pushed; taken = taken; home = home }
 
 -- the owner of a new deque
 abbrev pub founder : Hand
-founder = hand 0 whole true [] [] []
+founder = hand 0 all_shares true [] [] []
 
 -- slips were loaded; slips were taken
 abbrev pub loaded : Hand → List Slip → Hand
@@ -26,11 +26,11 @@ abbrev pub took : Hand → List Slip → Hand
 took v xs = hand v.deque v.share v.pushes v.pushed (v.taken ++ xs) v.home
 
 -- the owner gives a share away: what is left, and the new pass
-abbrev pub cut_left : ℕ → Hand → Hand
-cut_left deque v = hand deque (v.share - 1) true v.pushed v.taken v.home
+abbrev pub share_kept : ℕ → Hand → Hand
+share_kept deque v = hand deque (v.share - 1) true v.pushed v.taken v.home
 
-abbrev pub cut_right : ℕ → ℕ → Hand
-cut_right deque taker = hand deque 1 false [] [] (taker ∷ [])
+abbrev pub share_given : ℕ → ℕ → Hand
+share_given deque taker = hand deque 1 false [] [] (taker ∷ [])
 
 -- the owner takes a pass in, and what the pass knows afterwards
 abbrev pub absorbed : Hand → Hand → Hand
@@ -67,7 +67,7 @@ pub record DequeHolds (items : List Slip) (views : List Hand) : Type 0 where
   pub taken : List Slip
   pub rest : pushed ≡ taken ++ items
   pub tagged : AllTagged deque 0 pushed
-  pub whole_is : shares views ≡ whole
+  pub whole_is : shares views ≡ all_shares
   pub each : (h : Slip → ℕ) → taken_weight h views ≡ weigh h taken
   pub fits : (port : ℕ) (v : Hand) → get_elem? views port ≡ some v → FitsDeque deque owner pushed port v
 
@@ -77,7 +77,7 @@ WasEmpty v = (port : ℕ) × (views : List Hand) × DequeHolds [] views × (get_
 
 -- the same, and the owner with the whole share has taken all that was pushed
 abbrev pub Drained : Hand → Type 0
-Drained v = WasEmpty v × (v.pushes ≡ true → whole ≤ v.share → SameItems v.taken v.pushed)
+Drained v = WasEmpty v × (v.pushes ≡ true → all_shares ≤ v.share → SameItems v.taken v.pushed)
 
 -- slips were taken by a pass; the owner has not taken more than was pushed
 abbrev pub IsTaking : Hand → List Slip → Hand → Type 0

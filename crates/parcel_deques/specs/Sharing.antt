@@ -1,6 +1,6 @@
 -- How the owners of new deques give a share to each other bench.
 use Rattle.std.specs.Prelude.{ℕ, ◌+◌, ◌<◌, ◌≤◌, ◌≡◌, ◌≢◌, true, List, [], ◌∷◌, length, map, Some, None, slice_index_or}
-use Rattle.parcel_deques.specs.Rule.{whole, hand, cut_left, cut_right}
+use Rattle.parcel_deques.specs.Rule.{all_shares, hand, share_kept, share_given}
 use Rattle.parcel_deques.specs.Ends.{DequeId, EndValue}
 use Rattle.parcel_deques.specs.Owners.{OwnValue}
 use Rattle.parcel_deques.specs.Benches.{BenchValue, IsBench, bench_of}
@@ -13,8 +13,8 @@ deques = map (λ (o : OwnValue). o.deque)
 pub record IsSharing (capacity j k : ℕ) (o : OwnValue) : Type 0 where
   pub capacity_is : o.capacity ≡ capacity
   pub hand_is : o.hand ≡ hand k o.hand.share true [] [] (k ∷ [])
-  pub before : k < j → o.hand.share + j ≡ whole + 1
-  pub after : j ≤ k → o.hand.share + j ≡ whole
+  pub before : k < j → o.hand.share + j ≡ all_shares + 1
+  pub after : j ≤ k → o.hand.share + j ≡ all_shares
 
 -- all owners
 pub record AreSharing (growers capacity j : ℕ) (owns : List OwnValue) : Type 0 where
@@ -27,7 +27,7 @@ pub record HasGiven (taker k : ℕ) (old now : OwnValue) (e : EndValue) : Type 0
   pub capacity : now.capacity ≡ old.capacity
   pub end : e.deque ≡ old.deque
   pub here : k ≡ taker → (now.hand ≡ old.hand) × (e.pass ≡ None)
-  pub away : k ≢ taker → (now.hand ≡ cut_left old.hand.deque old.hand) × (e.pass ≡ Some (cut_right old.hand.deque taker))
+  pub away : k ≢ taker → (now.hand ≡ share_kept old.hand.deque old.hand) × (e.pass ≡ Some (share_given old.hand.deque taker))
 
 -- the owners below place i gave an end each
 pub record AreGiving (taker i : ℕ) (old now : List OwnValue) (ends : List EndValue) : Type 0 where
@@ -40,7 +40,7 @@ pub record AreGiving (taker i : ℕ) (old now : List OwnValue) (ends : List EndV
 pub record AreEnds (call : List DequeId) (taker : ℕ) (ends : List EndValue) : Type 0 where
   pub call_is : map (λ (e : EndValue). e.deque) ends ≡ call
   pub here : (f : EndValue) → (slice_index_or ends taker f).pass ≡ None
-  pub away : (k : ℕ) (f : EndValue) → k < length call → k ≢ taker → (slice_index_or ends k f).pass ≡ Some (cut_right k taker)
+  pub away : (k : ℕ) (f : EndValue) → k < length call → k ≢ taker → (slice_index_or ends k f).pass ≡ Some (share_given k taker)
 
 -- owners and ends fit together
 pub record AreParts (owns : List OwnValue) (lists : List (List EndValue)) : Type 0 where

@@ -1,8 +1,8 @@
 //! A thief's ends of deques.
 ghost use Rattle.std.specs.Prelude.{◌≡◌, ◌<◌, ◌≤◌, length, IfOk, IfSome, IfNone};
 ghost use Rattle.crossbeam_deque.specs.Handles.{stealer_deque, stealer_flavor};
-ghost use Rattle.parcel_deques.specs.Rule.{cut_left, cut_right, absorbed};
-ghost use Rattle.parcel_deques.specs.Ends.{EndValue, IsPassHere, seen, known_left, Tried, Took, Each, IsBetween, IsTriedAround, StoleBetween, StoleAround};
+ghost use Rattle.parcel_deques.specs.Rule.{share_kept, share_given, absorbed};
+ghost use Rattle.parcel_deques.specs.Ends.{EndValue, IsPassHere, hand_of, known_left, Tried, Took, Each, IsBetween, IsTriedAround, StoleBetween, StoleAround};
 ghost use Rattle.parcel_deques.specs.declared.rule.Hand.{Hand as HandType};
 
 use crate::own::Own;
@@ -23,11 +23,11 @@ pub struct End<J: Naming> {
 impl<J: Naming> Model for End<J> {
     ghost use Rattle.std.specs.Prelude.{◌≡◌};
     ghost use Rattle.crossbeam_deque.specs.Handles.{stealer_deque, stealer_flavor};
-    ghost use Rattle.parcel_deques.specs.Ends.{EndValue, IsPassHere, seen, known_left};
+    ghost use Rattle.parcel_deques.specs.Ends.{EndValue, IsPassHere, hand_of, known_left};
 
     ghost Value = { EndValue };
 
-    ghost view = { λ e. record { deque = stealer_deque e.thief; pass = seen e.pass; known = known_left e.pass } };
+    ghost view = { λ e. record { deque = stealer_deque e.thief; pass = hand_of e.pass; known = known_left e.pass } };
 
     ghost invariant = { λ e. (stealer_flavor e.thief ≡ 0) × IsPassHere (stealer_deque e.thief) e.pass };
 }
@@ -44,7 +44,7 @@ impl<J: Naming> End<J> {
     /// An end for another bench, with one share of the owner's.
     pub(crate) fn away(own: &mut Own<J>, taker: u32) -> Result<End<J>, NoMemory>
         requires { 1 < own.old.hand.share }
-        ensures { IfOk result (λ e. (own.new ≡ record own.old { hand = cut_left own.old.hand.deque own.old.hand }) × (e.deque ≡ own.old.deque) × (e.pass ≡ Some (cut_right own.old.hand.deque taker))) }
+        ensures { IfOk result (λ e. (own.new ≡ record own.old { hand = share_kept own.old.hand.deque own.old.hand }) × (e.deque ≡ own.old.deque) × (e.pass ≡ Some (share_given own.old.hand.deque taker))) }
     {
         let thief = own.thief()?;
         let pass = Some(own.share(taker));

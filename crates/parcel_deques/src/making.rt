@@ -14,11 +14,11 @@ use std::marker::Model;
 
 /// The ends of one bench, in order of number.
 #[derive(Drop)]
-struct Ends<J: Naming> {
+struct BenchEnds<J: Naming> {
     list: Vec<End<J>>,
 }
 
-impl<J: Naming> Model for Ends<J> {
+impl<J: Naming> Model for BenchEnds<J> {
     ghost use Rattle.std.specs.Prelude.{List};
     ghost use Rattle.parcel_deques.specs.Ends.{EndValue};
 
@@ -59,7 +59,7 @@ fn ends_of<J: Naming>(
     alloc: Global,
     owns: &mut Vec<Own<J>>,
     taker: u32,
-) -> Result<Ends<J>, NoMemory>
+) -> Result<BenchEnds<J>, NoMemory>
     requires few { length owns.old.items ≤ 16 }
     requires shares { (k : ℕ) (d : OwnValue) → k < length owns.old.items → k ≢ taker → 1 < (slice_index_or owns.old.items k d).hand.share }
     ensures { IfOk result (λ ends. AreGiving taker (length owns.old.items) owns.old.items owns.new.items ends) }
@@ -69,14 +69,14 @@ fn ends_of<J: Naming>(
         let end = end_at(&mut owns[place], place as u32, taker)?;
         list.push_reserved(end);
     }
-    Ok(Ends { list })
+    Ok(BenchEnds { list })
 }
 
 /// Each owner with the ends of its bench.
 fn assemble<J: Naming>(
     alloc: Global,
     owns: Vec<Own<J>>,
-    lists: Vec<Ends<J>>,
+    lists: Vec<BenchEnds<J>>,
 ) -> Result<Vec<Bench<J>>, NoMemory>
     requires { AreParts owns.items lists.items }
     ensures { IfOk result (λ v. AreMade owns.items lists.items (length owns.items) v.items) }

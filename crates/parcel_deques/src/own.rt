@@ -1,7 +1,7 @@
 //! The owner's end of a deque, with its number.
 ghost use Rattle.std.specs.Prelude.{◌≡◌, ℕ, ◌+◌, ◌<◌, ◌≤◌, true, [], ◌∷◌, ◌++◌, length, IfOk, IfErr, MatchOption};
 ghost use Rattle.crossbeam_deque.specs.Handles.{view, IsPassOf, stealer_deque, stealer_flavor, worker_deque, worker_flavor, worker_view, worker_capacity, worker_index};
-ghost use Rattle.parcel_deques.specs.Rule.{whole, hand, cut_left, cut_right, absorbed, loaded, IsTaking, Drained};
+ghost use Rattle.parcel_deques.specs.Rule.{all_shares, hand, share_kept, share_given, absorbed, loaded, IsTaking, Drained};
 ghost use Rattle.parcel_deques.specs.Parcels.{tag_of, tagged};
 ghost use Rattle.parcel_deques.specs.Owners.{OwnValue, IsOwner};
 
@@ -35,7 +35,7 @@ impl<J: Naming> Model for Own<J> {
 impl<J: Naming> Own<J> {
     /// A new deque, that takes so many parcels before a push may be refused.
     pub(crate) fn open(alloc: Global, number: u32, capacity: usize) -> Result<Own<J>, NoMemory>
-        ensures { IfOk result (λ o. (o.capacity ≡ capacity) × (o.hand ≡ hand number whole true [] [] (number ∷ []))) }
+        ensures { IfOk result (λ o. (o.capacity ≡ capacity) × (o.hand ≡ hand number all_shares true [] [] (number ∷ []))) }
     {
         let owner = open(alloc, number, capacity)?;
         Ok(Own {
@@ -63,9 +63,9 @@ impl<J: Naming> Own<J> {
     /// A pass for another bench, with one share.
     pub(crate) fn share(&mut self, taker: u32) -> Share<J>
         requires { 1 < self.old.hand.share }
-        ensures own { self.new ≡ record self.old { hand = cut_left self.old.hand.deque self.old.hand } }
+        ensures own { self.new ≡ record self.old { hand = share_kept self.old.hand.deque self.old.hand } }
         ensures here { IsPassOf self.old.deque result }
-        ensures view { view result ≡ cut_right self.old.hand.deque taker }
+        ensures view { view result ≡ share_given self.old.hand.deque taker }
     {
         another(&mut self.owner, self.number, taker)
     }

@@ -1,7 +1,7 @@
 //! The ruled steps of a deque's owner.
 ghost use Rattle.std.specs.Prelude.{◌≡◌, ℕ, ◌+◌, ◌<◌, ◌≤◌, ◌⊎◌, true, [], ◌∷◌, length, IfOk, MatchOption, MatchResult};
 ghost use Rattle.crossbeam_deque.specs.Handles.{view, IsPassOf, worker_deque, worker_flavor, worker_view, worker_capacity, worker_index, SameWorker};
-ghost use Rattle.parcel_deques.specs.Rule.{whole, hand, cut_left, cut_right, absorbed, founder, loaded, IsTaking, Drained};
+ghost use Rattle.parcel_deques.specs.Rule.{all_shares, hand, share_kept, share_given, absorbed, founder, loaded, IsTaking, Drained};
 ghost use Rattle.parcel_deques.specs.Parcels.{tag_of};
 
 use crate::parcel::{Naming, Parcel};
@@ -23,7 +23,7 @@ pub(crate) fn open<J: Naming>(
     number: u32,
     capacity: usize,
 ) -> Result<Owner<J>, NoMemory>
-    ensures { IfOk result (λ w. (worker_flavor w ≡ 0) × (worker_index w ≡ 0) × (capacity ≤ worker_capacity w) × (worker_view w ≡ hand number whole true [] [] (number ∷ []))) }
+    ensures { IfOk result (λ w. (worker_flavor w ≡ 0) × (worker_index w ≡ 0) × (capacity ≤ worker_capacity w) × (worker_view w ≡ hand number all_shares true [] [] (number ∷ []))) }
 {
     let mut owner = Owner::fifo_as(alloc, capacity)?;
     let share = another(&mut owner, number, number);
@@ -34,9 +34,9 @@ pub(crate) fn open<J: Naming>(
 /// A pass with one share for a bench. Only a deque that is whole and new gets a number by it.
 pub(crate) fn another<J: Naming>(owner: &mut Owner<J>, deque: u32, taker: u32) -> Share<J>
     requires live { ((worker_view owner.old).pushes ≡ true) × (1 < (worker_view owner.old).share) }
-    requires deque { (deque ≡ (worker_view owner.old).deque) ⊎ ((whole ≤ (worker_view owner.old).share) × ((worker_view owner.old).pushed ≡ [])) }
+    requires deque { (deque ≡ (worker_view owner.old).deque) ⊎ ((all_shares ≤ (worker_view owner.old).share) × ((worker_view owner.old).pushed ≡ [])) }
     ensures same { SameWorker owner.old owner.new × (worker_index owner.new ≡ worker_index owner.old) × IsPassOf (worker_deque owner.old) result }
-    ensures views { (worker_view owner.new ≡ cut_left deque (worker_view owner.old)) × (view result ≡ cut_right deque taker) }
+    ensures views { (worker_view owner.new ≡ share_kept deque (worker_view owner.old)) × (view result ≡ share_given deque taker) }
 {
     another_as::<J, Brand>(owner, deque, taker)
 }
@@ -44,9 +44,9 @@ pub(crate) fn another<J: Naming>(owner: &mut Owner<J>, deque: u32, taker: u32) -
 fn another_as<J: Naming, M: Marked>(owner: &mut Owner<J>, _deque: u32, _taker: u32) -> Share<J>
     requires asked { (M.deque ≡ _deque) × (M.taker ≡ _taker) }
     requires live { ((worker_view owner.old).pushes ≡ true) × (1 < (worker_view owner.old).share) }
-    requires deque { (_deque ≡ (worker_view owner.old).deque) ⊎ ((whole ≤ (worker_view owner.old).share) × ((worker_view owner.old).pushed ≡ [])) }
+    requires deque { (_deque ≡ (worker_view owner.old).deque) ⊎ ((all_shares ≤ (worker_view owner.old).share) × ((worker_view owner.old).pushed ≡ [])) }
     ensures same { SameWorker owner.old owner.new × (worker_index owner.new ≡ worker_index owner.old) × IsPassOf (worker_deque owner.old) result }
-    ensures views { (worker_view owner.new ≡ cut_left _deque (worker_view owner.old)) × (view result ≡ cut_right _deque _taker) }
+    ensures views { (worker_view owner.new ≡ share_kept _deque (worker_view owner.old)) × (view result ≡ share_given _deque _taker) }
 {
     owner.another::<Cut<M>>()
 }

@@ -1,7 +1,7 @@
 //! The rule of a deque, and what each step of it tells. The numbers of a cut are told by ghost members, which a private
 //! function picks.
 ghost use Rattle.std.specs.Prelude.{ℕ};
-ghost use Rattle.parcel_deques.specs.Rule.{DequeHolds, founder, spent, cut_left, cut_right, absorbed, IsLoading, IsTaking, Drained};
+ghost use Rattle.parcel_deques.specs.Rule.{DequeHolds, founder, spent, share_kept, share_given, absorbed, IsLoading, IsTaking, Drained};
 
 use crate::parcel::{Naming, Parcel, Slip};
 use crossbeam_deque::protocol::{Join, Outcome, Protocol, Split};
@@ -71,11 +71,11 @@ pub(crate) struct Cut<M> {
 }
 
 impl<M: Marked> Split<Hand> for Cut<M> {
-    ghost use Rattle.parcel_deques.specs.Rule.{cut_left, cut_right};
+    ghost use Rattle.parcel_deques.specs.Rule.{share_kept, share_given};
 
-    ghost left = { cut_left M.deque };
+    ghost left = { share_kept M.deque };
 
-    ghost right = { λ v. cut_right M.deque M.taker };
+    ghost right = { λ v. share_given M.deque M.taker };
 }
 
 /// A share that comes home.

@@ -9,7 +9,7 @@ use Rattle.graph_history.specs.Desks.{by}
 use Rattle.job_text.specs.declared.commands.Command.{Command}
 use Rattle.session_desk.specs.declared.reply.Reply.{Reply}
 use Rattle.session_desk.specs.Replies.{replies}
-use Rattle.session_desk.specs.Sessions.{Continues, Ran, RanAlone}
+use Rattle.session_desk.specs.Sessions.{Continues, RanScript, RanAlone}
 use Rattle.session_desk.specs.Texts.{IsPrintable}
 
 -- the calls of another number are among the events of all others
@@ -31,10 +31,10 @@ calls_kept old mid new m is same bond n apart =
 
 -- a script that ran on a desk under a number without events
 pub ran_alone : (old mid new : PlainValue) (n : ℕ) (script : List Command) (before after : List Reply) → mid ≡ record old { caller = n } → calls old.front n ≡ [] → before ≡ []
-    → Ran (standing_of mid) (standing_of new) script before after → RanAlone old.world n new.front script after
+    → RanScript (standing_of mid) (standing_of new) script before after → RanAlone old.world n new.front script after
 ran_alone old mid new n script before after is fresh none ran =
-    let r : Ran (standing_of (record old { caller = n })) (standing_of new) script [] after =
-    subst (λ (v : PlainValue). Ran (standing_of v) (standing_of new) script [] after) is (subst (λ (l : List Reply). Ran (standing_of mid) (standing_of new) script l after) none ran) in
+    let r : RanScript (standing_of (record old { caller = n })) (standing_of new) script [] after =
+    subst (λ (v : PlainValue). RanScript (standing_of v) (standing_of new) script [] after) is (subst (λ (l : List Reply). RanScript (standing_of mid) (standing_of new) script l after) none ran) in
     let own : calls new.front n ≡ by n r.acts =
     ap (λ (l : List Event). calls l n) r.goes.grows.is ∙ filter-append (λ (e : Event). e.caller == n) old.front r.goes.grows.more
     ∙ ap (λ (l : List Event). l ++ calls r.goes.grows.more n) fresh ∙ r.goes.grows.own in

@@ -28,7 +28,7 @@ use Rattle.session_desk.specs.declared.reply.Reply.{Reply}
 use Rattle.session_desk.specs.declared.reply.Reply.TheVariants.{Absent, Undrawn, Zero, Full, Word}
 use Rattle.session_desk.specs.declared.reply.Reply.TheVariants as reply
 use Rattle.session_desk.specs.Replies.{Told, first, reply_if, then_if, is_at, is_root, is_by, drawn_reply, added_reply, found_reply, debts_reply, at_vertex, told_of, on_entry, on_look, on_move, behind_entry}
-use Rattle.session_desk.specs.Sessions.{Replied, Answered}
+use Rattle.session_desk.specs.Sessions.{Replied, IsAnswered}
 use Rattle.session_desk.specs.Texts.{IsPrintable}
 use Rattle.session_desk.proofs.Owing.{nothing_more, entry_owes, draws_owes}
 
@@ -107,7 +107,7 @@ module _ {Bond : Type 0} where
 
   -- a value that is told of a word by its code alone
   pub value_told : (s : Standing Bond) (u : SpaceType) (k : Command) (value : SpaceType → Reply) (reply : Reply) → ((v : SpaceType) (rest : List Event) → told_of v k rest ≡ Some (value v, rest))
-      → IsLegal s.world s.front → u ≡ s.world.space → reply ≡ value u → IsPrintable u reply → Answered s s 0 k reply
+      → IsLegal s.world s.front → u ≡ s.world.space → reply ≡ value u → IsPrintable u reply → IsAnswered s s 0 k reply
   value_told s u k value reply row legal space is printable = record {
     acts = [];
     goes = goes_still s legal;
@@ -116,7 +116,7 @@ module _ {Bond : Type 0} where
     printable = subst (λ (v : SpaceType). IsPrintable v reply) space printable;
   }
 
-  pub add_told : (old new : Standing Bond) (x : ℕ) (answer : AddedAnswer) → Entering old new x Root answer → Answered old new 1 (Add x) (added_reply answer)
+  pub add_told : (old new : Standing Bond) (x : ℕ) (answer : AddedAnswer) → Entering old new x Root answer → IsAnswered old new 1 (Add x) (added_reply answer)
   add_told old new x answer e = record {
     acts = e.acts;
     goes = e.does.goes;
@@ -130,12 +130,12 @@ module _ {Bond : Type 0} where
       printable (added.Old c) = tt
       printable added.Full = tt
 
-  pub find_told : (old new : Standing Bond) (x : ℕ) (found : Option ℕ) → Does old new 0 (find_acts x found) → Answered old new 0 (Find x) (found_reply found)
+  pub find_told : (old new : Standing Bond) (x : ℕ) (found : Option ℕ) → Does old new 0 (find_acts x found) → IsAnswered old new 0 (Find x) (found_reply found)
   find_told old new x (Some c) d = record { acts = Met c x ∷ []; goes = d.goes; unpaid = d.goes.unpaid ∙ nothing_more old.unpaid; told = λ rest. reply_true (x == x) _ rest (self_eq x); printable = tt }
   find_told old new x None d = record { acts = Missed x ∷ []; goes = d.goes; unpaid = d.goes.unpaid ∙ nothing_more old.unpaid; told = λ rest. reply_true (x == x) _ rest (self_eq x); printable = tt }
 
   -- what `done` is told
-  pub done_told : (old new : Standing Bond) (n : ℕ) → Does old new 0 (Tally n ∷ []) → Answered old new 0 Done (debts_reply n)
+  pub done_told : (old new : Standing Bond) (n : ℕ) → Does old new 0 (Tally n ∷ []) → IsAnswered old new 0 Done (debts_reply n)
   done_told old new n d = record {
     acts = Tally n ∷ [];
     goes = d.goes;
@@ -152,10 +152,10 @@ module _ {Bond : Type 0} where
   absent : (old new : Standing Bond) (x : ℕ) (tell : ℕ → List Event → Told) → Does old new 0 (Missed x ∷ []) → Replied old new 0 (first (at_vertex x tell)) Absent
   absent old new x tell d = record { acts = Missed x ∷ []; goes = d.goes; unpaid = d.goes.unpaid ∙ nothing_more old.unpaid; told = λ rest. reply_true (x == x) _ rest (self_eq x); printable = tt }
 
-  pub look_absent : (old new : Standing Bond) (x : ℕ) (a : Arrow) → Does old new 0 (Missed x ∷ []) → Answered old new 0 (Look a x) Absent
+  pub look_absent : (old new : Standing Bond) (x : ℕ) (a : Arrow) → Does old new 0 (Missed x ∷ []) → IsAnswered old new 0 (Look a x) Absent
   look_absent old new x a d = absent old new x (λ c rest. first (on_look (op old.world.space a x) c a) rest) d
 
-  pub move_absent : (old new : Standing Bond) (x : ℕ) (a : Arrow) → Does old new 0 (Missed x ∷ []) → Answered old new 1 (Move a x) Absent
+  pub move_absent : (old new : Standing Bond) (x : ℕ) (a : Arrow) → Does old new 0 (Missed x ∷ []) → IsAnswered old new 1 (Move a x) Absent
   move_absent old new x a d =
       replied_within old new (told_of old.world.space (Move a x)) Absent (absent old new x (λ c rest. first (on_move (op old.world.space a x) c a) rest) d)
 
@@ -173,13 +173,13 @@ module _ {Bond : Type 0} where
   }
 
   pub look_met : (old mid new : Standing Bond) (x c : ℕ) (a : Arrow) (reply : Reply) → Does old mid 0 (Met c x ∷ [])
-      → Replied mid new 0 (first (on_look (op mid.world.space a x) c a)) reply → Answered old new 0 (Look a x) reply
+      → Replied mid new 0 (first (on_look (op mid.world.space a x) c a)) reply → IsAnswered old new 0 (Look a x) reply
   look_met old mid new x c a reply d r =
       present old mid new x c 0 (λ e rest. first (on_look (op old.world.space a x) e a) rest) reply d
       (subst (λ (w : WorldType). Replied mid new 0 (first (on_look (op w.space a x) c a)) reply) d.goes.world r)
 
   pub move_met : (old mid new : Standing Bond) (x c : ℕ) (a : Arrow) (reply : Reply) → Does old mid 0 (Met c x ∷ [])
-      → Replied mid new 1 (first (on_move (op mid.world.space a x) c a)) reply → Answered old new 1 (Move a x) reply
+      → Replied mid new 1 (first (on_move (op mid.world.space a x) c a)) reply → IsAnswered old new 1 (Move a x) reply
   move_met old mid new x c a reply d r =
       present old mid new x c 1 (λ e rest. first (on_move (op old.world.space a x) e a) rest) reply d
       (subst (λ (w : WorldType). Replied mid new 1 (first (on_move (op w.space a x) c a)) reply) d.goes.world r)

@@ -15,7 +15,7 @@ use Rattle.graph_history.proofs.DeskSteps.{goes_still, goes_then}
 use Rattle.job_text.specs.declared.commands.Command.{Command}
 use Rattle.session_desk.specs.declared.reply.Reply.{Reply}
 use Rattle.session_desk.specs.Replies.{Told, told_of, replies}
-use Rattle.session_desk.specs.Sessions.{IsAsked, Answered, Ran}
+use Rattle.session_desk.specs.Sessions.{IsAsked, IsAnswered, RanScript}
 use Rattle.session_desk.specs.Texts.{IsPrintable}
 use Rattle.session_desk.proofs.Owing.{nothing_more, unpaid_on}
 
@@ -68,7 +68,7 @@ module _ {Bond : Type 0} where
   })
 
   going_on : (old mid new : Standing Bond) (done more_done : List Command) (k : Command) (before mid_replies after : List Reply) (reply : Reply)
-      → more_done ≡ done ++ k ∷ [] → after ≡ mid_replies ++ reply ∷ [] → Going old mid done before mid_replies → Answered mid new 1 k reply → Going old new more_done before after
+      → more_done ≡ done ++ k ∷ [] → after ≡ mid_replies ++ reply ∷ [] → Going old mid done before mid_replies → IsAnswered mid new 1 k reply → Going old new more_done before after
   going_on old mid new done more_done k before mid_replies after reply one added g a =
       let world : mid.world ≡ old.world = g.goes.world in
       let here : (rest : List Event) → told_of old.world.space k (by old.caller a.acts ++ rest) ≡ Some (reply, rest) =
@@ -91,12 +91,12 @@ module _ {Bond : Type 0} where
 
   -- the next command of a script is done
   pub going_next : (old mid new : Standing Bond) (script : List Command) (k : ℕ) (command : Command) (before mid_replies after : List Reply) (reply : Reply)
-      → slice_get script k ≡ Some command → after ≡ mid_replies ++ reply ∷ [] → Going old mid (take k script) before mid_replies → Answered mid new 1 command reply
+      → slice_get script k ≡ Some command → after ≡ mid_replies ++ reply ∷ [] → Going old mid (take k script) before mid_replies → IsAnswered mid new 1 command reply
       → Going old new (take (k + 1) script) before after
   going_next old mid new script k command before mid_replies after reply at added g a =
       going_on old mid new (take k script) (take (k + 1) script) command before mid_replies after reply (next_command script k command at) added g a
 
-  pub going_end : (old new : Standing Bond) (done script : List Command) (before after : List Reply) → done ≡ script → Going old new done before after → Ran old new script before after
+  pub going_end : (old new : Standing Bond) (done script : List Command) (before after : List Reply) → done ≡ script → Going old new done before after → RanScript old new script before after
   going_end old new done script before after all g = rw (← all) (record {
     acts = g.acts;
     goes = g.goes;

@@ -39,12 +39,12 @@ pub record Replied {Bond : Type 0} (old new : Standing Bond) (places : ℕ) (tel
   pub printable : IsPrintable old.world.space reply
 
 -- so it answered a command
-abbrev pub Answered : {Bond : Type 0} → Standing Bond → Standing Bond → ℕ → Command → Reply → Type 0
-Answered old new places command reply = Replied old new places (told_of old.world.space command) reply
+abbrev pub IsAnswered : {Bond : Type 0} → Standing Bond → Standing Bond → ℕ → Command → Reply → Type 0
+IsAnswered old new places command reply = Replied old new places (told_of old.world.space command) reply
 
 -- a script ran: the list of replies grew by those of the script, told from the acts by which the desk went on, and each
 -- of them can be printed; the desk owes for the cells that these acts put in
-pub record Ran {Bond : Type 0} (old new : Standing Bond) (script : List Command) (before after : List Reply) : Type 0 where
+pub record RanScript {Bond : Type 0} (old new : Standing Bond) (script : List Command) (before after : List Reply) : Type 0 where
   pub acts : List Act
   pub goes : Goes old new (length script) acts
   pub unpaid : new.unpaid ≡ old.unpaid ++ added_cells acts

@@ -6,7 +6,7 @@ ghost use Rattle.tensor_words.specs.Operators.{IsArrow, op};
 ghost use Rattle.graph_history.specs.History.{state_of, HasVertex};
 ghost use Rattle.job_text.specs.declared.commands.Command.TheVariants as asked;
 ghost use Rattle.session_desk.specs.Replies.{first, on_look, on_move, added_reply, found_reply, debts_reply};
-ghost use Rattle.session_desk.specs.Sessions.{IsAsked, Replied, Answered};
+ghost use Rattle.session_desk.specs.Sessions.{IsAsked, Replied, IsAnswered};
 
 use crate::reply::Reply;
 use crate::words::{eps, phi, weight};
@@ -18,7 +18,7 @@ use job_text::Command;
 pub(crate) fn answer<D: Desk>(desk: &mut D, command: &Command) -> Reply
     requires asked { IsAsked (D.standing desk.old).world command.now }
     requires room { 0 < (D.standing desk.old).room }
-    ensures { Answered (D.standing desk.old) (D.standing desk.new) 1 command.now result }
+    ensures { IsAnswered (D.standing desk.old) (D.standing desk.new) 1 command.now result }
 {
     match *command {
         Command::Add(code) => add(desk, code),
@@ -35,7 +35,7 @@ pub(crate) fn answer<D: Desk>(desk: &mut D, command: &Command) -> Reply
 fn add<D: Desk>(desk: &mut D, code: u64) -> Reply
     requires root { Contains (D.standing desk.old).world.roots code }
     requires room { 0 < (D.standing desk.old).room }
-    ensures { Answered (D.standing desk.old) (D.standing desk.new) 1 (asked.Add code) result }
+    ensures { IsAnswered (D.standing desk.old) (D.standing desk.new) 1 (asked.Add code) result }
 {
     let added = desk.add(code);
     reply_to_add(added)
@@ -53,7 +53,7 @@ fn reply_to_add(added: Added) -> Reply
 
 fn find<D: Desk>(desk: &mut D, code: u64) -> Reply
     requires { code < size (D.standing desk.old).world.space }
-    ensures { Answered (D.standing desk.old) (D.standing desk.new) 0 (asked.Find code) result }
+    ensures { IsAnswered (D.standing desk.old) (D.standing desk.new) 0 (asked.Find code) result }
 {
     let found = desk.find(code);
     reply_to_find(found)
@@ -71,7 +71,7 @@ fn reply_to_find(found: Option<u32>) -> Reply
 fn look<D: Desk>(desk: &mut D, arrow: Arrow, code: u64) -> Reply
     requires arrow { IsArrow (D.standing desk.old).world.space arrow }
     requires code { code < size (D.standing desk.old).world.space }
-    ensures { Answered (D.standing desk.old) (D.standing desk.new) 0 (asked.Look arrow code) result }
+    ensures { IsAnswered (D.standing desk.old) (D.standing desk.new) 0 (asked.Look arrow code) result }
 {
     match desk.find(code) {
         None => Reply::Absent,
@@ -97,7 +97,7 @@ fn follow<D: Desk>(desk: &mut D, arrow: Arrow, code: u64) -> Reply
     requires arrow { IsArrow (D.standing desk.old).world.space arrow }
     requires code { code < size (D.standing desk.old).world.space }
     requires room { 0 < (D.standing desk.old).room }
-    ensures { Answered (D.standing desk.old) (D.standing desk.new) 1 (asked.Move arrow code) result }
+    ensures { IsAnswered (D.standing desk.old) (D.standing desk.new) 1 (asked.Move arrow code) result }
 {
     match desk.find(code) {
         None => Reply::Absent,
@@ -122,7 +122,7 @@ fn follow_from<D: Desk>(desk: &mut D, cell: u32, arrow: Arrow, code: u64) -> Rep
 
 fn weigh<D: Desk>(desk: &D, code: u64) -> Reply
     requires { code < size (D.standing desk.now).world.space }
-    ensures { Answered (D.standing desk.now) (D.standing desk.now) 0 (asked.Wt code) result }
+    ensures { IsAnswered (D.standing desk.now) (D.standing desk.now) 0 (asked.Wt code) result }
 {
     let space = desk.space();
     weight(space, code)
@@ -131,7 +131,7 @@ fn weigh<D: Desk>(desk: &D, code: u64) -> Reply
 fn count_raises<D: Desk>(desk: &D, index: u8, code: u64) -> Reply
     requires index { HasIndex (D.standing desk.now).world.space.cartan index }
     requires code { code < size (D.standing desk.now).world.space }
-    ensures { Answered (D.standing desk.now) (D.standing desk.now) 0 (asked.Eps index code) result }
+    ensures { IsAnswered (D.standing desk.now) (D.standing desk.now) 0 (asked.Eps index code) result }
 {
     let space = desk.space();
     eps(space, index, code)
@@ -140,14 +140,14 @@ fn count_raises<D: Desk>(desk: &D, index: u8, code: u64) -> Reply
 fn count_lowers<D: Desk>(desk: &D, index: u8, code: u64) -> Reply
     requires index { HasIndex (D.standing desk.now).world.space.cartan index }
     requires code { code < size (D.standing desk.now).world.space }
-    ensures { Answered (D.standing desk.now) (D.standing desk.now) 0 (asked.Phi index code) result }
+    ensures { IsAnswered (D.standing desk.now) (D.standing desk.now) 0 (asked.Phi index code) result }
 {
     let space = desk.space();
     phi(space, index, code)
 }
 
 fn ask_debts<D: Desk>(desk: &mut D) -> Reply
-    ensures { Answered (D.standing desk.old) (D.standing desk.new) 0 asked.Done result }
+    ensures { IsAnswered (D.standing desk.old) (D.standing desk.new) 0 asked.Done result }
 {
     let debts = desk.tally();
     reply_to_debts(debts)

@@ -14,7 +14,7 @@ use Rattle.tensor_words.specs.TensorRule.{word_phi, action, as_standard}
 use Rattle.tensor_words.proofs.SpaceWords.{length_word}
 use Rattle.tensor_words.proofs.Turned.{near, near_rule}
 use Rattle.signature_rule.specs.Passes.{AreSigns, ClosesAt, OpensAt, bottom}
-use Rattle.signature_rule.specs.Places.{place_in, bottom_entry, closing_in, opening_in}
+use Rattle.signature_rule.specs.Places.{entry_place, bottom_entry, closing_in, opening_in}
 use Rattle.signature_rule.proofs.Signs.{phi_step}
 use Rattle.signature_rule.proofs.PassSteps.{IsEpsPass, eps_more, IsLowerPass, lower_next, factor_acts, none_left, whole}
 use Rattle.signature_rule.proofs.BothPasses.{IsBottomPass, bottom_next}
@@ -67,17 +67,17 @@ few_closing s Standard k d r row j = row.few_phi j
 few_closing s Kashiwara k d r row j = row.few_eps j
 
 -- an entry names the place of the factor
-placed : (k : ℕ) → k < 255 → place_in k ≡ Some k
+placed : (k : ℕ) → k < 255 → entry_place k ≡ Some k
 placed k lt = let test : (k == 255) ≡ false = grind (arith, nat_tests) in rw test refl
 
-placed_if : (b : Bool) (k found : ℕ) → k < 255 → place_in (if b then k else found) ≡ (if b then Some k else place_in found)
+placed_if : (b : Bool) (k found : ℕ) → k < 255 → entry_place (if b then k else found) ≡ (if b then Some k else entry_place found)
 placed_if true k found lt = placed k lt
 placed_if false k found lt = refl
 
-placed_bottom : (m f e k found : ℕ) → k < 255 → place_in (bottom_entry m f e k found) ≡ bottom m f e k (place_in found)
+placed_bottom : (m f e k found : ℕ) → k < 255 → entry_place (bottom_entry m f e k found) ≡ bottom m f e k (entry_place found)
 placed_bottom m f e k found lt = first (nat_le m f) (nat_lt 0 e)
   where
-    first : (b c : Bool) → place_in (if b then (if c then k else 255) else found) ≡ (if b then (if c then Some k else None) else place_in found)
+    first : (b c : Bool) → entry_place (if b then (if c then k else 255) else found) ≡ (if b then (if c then Some k else None) else entry_place found)
     first true true = placed k lt
     first true false = refl
     first false c = refl
@@ -85,15 +85,15 @@ placed_bottom m f e k found lt = first (nat_le m f) (nat_lt 0 e)
 -- one factor more, at one entry
 pub last_lane :
     (s : SpaceType) (i : ℕ) (w : List ℕ) (k m e f z y found : ℕ) → AreSigns s i w k e f → e ≤ 2 → k < 255 → z ≡ m - f + e → y ≡ (if nat_lt m f then k else found)
-    → IsLowerPass s i w k m (place_in found) → IsLowerPass s i w (k + 1) z (place_in y)
+    → IsLowerPass s i w k m (entry_place found) → IsLowerPass s i w (k + 1) z (entry_place y)
 last_lane s i w k m e f z y found signs few lt open_is found_is before =
-    rw (open_is, found_is, placed_if (nat_lt m f) k found lt) (lower_next s i w k m e f (place_in found) signs few before)
+    rw (open_is, found_is, placed_if (nat_lt m f) k found lt) (lower_next s i w k m e f (entry_place found) signs few before)
 
 pub first_lane :
     (s : SpaceType) (i : ℕ) (w : List ℕ) (k m e f z y found : ℕ) → AreSigns s i w k e f → k < 255 → z ≡ m - f + e → y ≡ bottom_entry m f e k found
-    → IsBottomPass s i w k m (place_in found) → IsBottomPass s i w (k + 1) z (place_in y)
+    → IsBottomPass s i w k m (entry_place found) → IsBottomPass s i w (k + 1) z (entry_place y)
 first_lane s i w k m e f z y found signs lt open_is found_is before =
-    rw (open_is, found_is, placed_bottom m f e k found lt) (bottom_next s i w k m e f (place_in found) signs before)
+    rw (open_is, found_is, placed_bottom m f e k found lt) (bottom_next s i w k m e f (entry_place found) signs before)
 
 -- no entry grows by more than 2 a factor
 pub few_more :
@@ -140,8 +140,8 @@ entry_inside s i space index = omega (arith, space.cartan.high, index.high, inde
 pub last_lanes :
     (s : SpaceType) (w : List ℕ) (k : ℕ) (opening closing unclosed behind found next : List ℕ) → IsSpace s → k < length s.factors → AreSignLanes s w k opening closing
     → AreOpenBehind unclosed closing opening behind → ((j : ℕ) → j < 8 → get_or next j 0 ≡ (if nat_lt (get_or unclosed j 0) (get_or closing j 0) then k else get_or found j 0))
-    → ((i : ℕ) → HasIndex s.cartan i → IsLowerPass s i w k (get_or unclosed (i - 1) 0) (place_in (get_or found (i - 1) 0)))
-    → (i : ℕ) → HasIndex s.cartan i → IsLowerPass s i w (k + 1) (get_or behind (i - 1) 0) (place_in (get_or next (i - 1) 0))
+    → ((i : ℕ) → HasIndex s.cartan i → IsLowerPass s i w k (get_or unclosed (i - 1) 0) (entry_place (get_or found (i - 1) 0)))
+    → (i : ℕ) → HasIndex s.cartan i → IsLowerPass s i w (k + 1) (get_or behind (i - 1) 0) (entry_place (get_or next (i - 1) 0))
 last_lanes s w k opening closing unclosed behind found next space below signs opens founds before i index =
     let inside : i - 1 < 8 = entry_inside s i space index in
     last_lane s i w k (get_or unclosed (i - 1) 0) (get_or opening (i - 1) 0) (get_or closing (i - 1) 0) (get_or behind (i - 1) 0) (get_or next (i - 1) 0) (get_or found (i - 1) 0)
@@ -151,8 +151,8 @@ pub first_lanes :
     (s : SpaceType) (w : List ℕ) (k : ℕ) (opening closing unclosed behind found next : List ℕ) → IsSpace s → k < length s.factors → AreSignLanes s w k opening closing
     → AreOpenBehind unclosed closing opening behind
     → ((j : ℕ) → j < 8 → get_or next j 0 ≡ bottom_entry (get_or unclosed j 0) (get_or closing j 0) (get_or opening j 0) k (get_or found j 0))
-    → ((i : ℕ) → HasIndex s.cartan i → IsBottomPass s i w k (get_or unclosed (i - 1) 0) (place_in (get_or found (i - 1) 0)))
-    → (i : ℕ) → HasIndex s.cartan i → IsBottomPass s i w (k + 1) (get_or behind (i - 1) 0) (place_in (get_or next (i - 1) 0))
+    → ((i : ℕ) → HasIndex s.cartan i → IsBottomPass s i w k (get_or unclosed (i - 1) 0) (entry_place (get_or found (i - 1) 0)))
+    → (i : ℕ) → HasIndex s.cartan i → IsBottomPass s i w (k + 1) (get_or behind (i - 1) 0) (entry_place (get_or next (i - 1) 0))
 first_lanes s w k opening closing unclosed behind found next space below signs opens founds before i index =
     let inside : i - 1 < 8 = entry_inside s i space index in
     first_lane s i w k (get_or unclosed (i - 1) 0) (get_or opening (i - 1) 0) (get_or closing (i - 1) 0) (get_or behind (i - 1) 0) (get_or next (i - 1) 0) (get_or found (i - 1) 0)

@@ -11,8 +11,8 @@ use Rattle.signature_rule.specs.declared.places.ActingPlaces.{ActingPlaces}
 use Rattle.signature_rule.specs.declared.places.StringLengths.{StringLengths}
 
 -- the place that an entry names: 255 names none
-abbrev pub place_in : ℕ → Option ℕ
-place_in entry = if entry == 255 then None else Some entry
+abbrev pub entry_place : ℕ → Option ℕ
+entry_place entry = if entry == 255 then None else Some entry
 
 -- the signs that an element with this row writes at the entries of the indices: in the standard order phi closing and eps opening
 -- signs, in Kashiwara's order eps closing and phi opening signs
@@ -31,8 +31,8 @@ bottom_entry m f e k before = if nat_le m f then (if nat_lt 0 e then k else 255)
 
 -- at each entry of an index the place where its operator acts on the word; none only where it gives zero
 pub record ArePlaces (s : SpaceType) (w : List ℕ) (p : ActingPlaces) : Type 0 where
-  pub lower : (i : ℕ) → HasIndex s.cartan i → MatchOption (place_in (slice_index p.lower (i - 1))) ((action s i).lower w ≡ None) (IsLowerPlace s i w)
-  pub raise : (i : ℕ) → HasIndex s.cartan i → MatchOption (place_in (slice_index p.raise (i - 1))) ((action s i).raise w ≡ None) (IsRaisePlace s i w)
+  pub lower : (i : ℕ) → HasIndex s.cartan i → MatchOption (entry_place (slice_index p.lower (i - 1))) ((action s i).lower w ≡ None) (IsLowerPlace s i w)
+  pub raise : (i : ℕ) → HasIndex s.cartan i → MatchOption (entry_place (slice_index p.raise (i - 1))) ((action s i).raise w ≡ None) (IsRaisePlace s i w)
 
 -- at each entry of an index how often its operators can be applied to the word
 pub record AreStrings (s : SpaceType) (w : List ℕ) (r : StringLengths) : Type 0 where

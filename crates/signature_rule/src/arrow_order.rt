@@ -4,6 +4,21 @@ ghost use Rattle.signature_rule.specs.ArrowOrder.{arrow_place};
 
 use crystal_cartan::Arrow;
 
+/// The place of an arrow in the order, counted from 0, in a type of this rank.
+pub fn arrow_place(rank: u8, arrow: Arrow) -> usize
+    requires low { 1 ≤ arrow.index }
+    requires high { arrow.index ≤ rank }
+    ensures place { result ≡ arrow_place rank arrow }
+    ensures below { result < rank + rank }
+{
+    let index = usize::from(arrow.index) - 1;
+    if arrow.down {
+        index
+    } else {
+        usize::from(rank) + index
+    }
+}
+
 /// The arrow at a place of the order, counted from 0, in a type of this rank.
 pub fn arrow_at(rank: u8, place: u8) -> Arrow
     requires few { rank ≤ 8 }

@@ -6,7 +6,8 @@
 //!
 //! For many words, `places` finds where the operators of all indices act on a word, and the lengths of all its strings,
 //! by one pass over a space with tables; an operator is then a difference of codes. `LastWord` (`last_word`) keeps these
-//! places from call to call, for callers that follow the arrows of one word after another.
+//! places from call to call, for callers that follow the arrows of one word after another. `arrow_order` has the order
+//! in which all callers take arrows: f_1 to f_r, and then e_1 to e_r.
 //!
 //! **The rule** is that of Bump and Schilling, Crystal Bases (2017), section 2.4. Each factor writes closing signs
 //! and then opening signs; an opening sign directly left of a closing sign is cancelled with it, until none stands so
@@ -24,7 +25,7 @@ mod operators;
 mod places;
 mod raising;
 
-pub use arrow_order::arrow_at;
+pub use arrow_order::{arrow_at, arrow_place};
 pub use last_word::LastWord;
 pub use laws::{word_laws, words_are_seminormal};
 pub use operators::{act, eps, lower, phi, raise};

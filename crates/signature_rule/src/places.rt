@@ -8,7 +8,7 @@ ghost use Rattle.crystal_cartan.specs.Types.{HasIndex};
 ghost use Rattle.tensor_words.specs.Spaces.{size};
 ghost use Rattle.tensor_words.specs.Codes.{IsWord, code_of};
 ghost use Rattle.tensor_words.specs.TensorRule.{action};
-ghost use Rattle.signature_rule.specs.Places.{ArePlaces, AreStrings, place_in, bottom_entry, closing_in, opening_in};
+ghost use Rattle.signature_rule.specs.Places.{ArePlaces, AreStrings, entry_place, bottom_entry, closing_in, opening_in};
 
 use std::simd::prelude::*;
 use tensor_words::{Order, Row, Steps, Word};
@@ -156,7 +156,7 @@ pub fn raised_code(
 
 /// The place that an entry names.
 fn place_of(entry: u8) -> Option<u8>
-    ensures { result ≡ place_in entry }
+    ensures { result ≡ entry_place entry }
 {
     if entry == NOWHERE { None } else { Some(entry) }
 }

@@ -3,6 +3,8 @@
 //! Usage: table_bench SEATS CODES, where SEATS is 0 (nothing is added), 1 or 4, and CODES at most 1,048,576. The graph has
 //! as many cells as codes, so in the end it is full. Prints how many of the adds were new. Without arguments a thousand
 //! codes are added in each way.
+//!
+//! It promises nothing but that it ends, and stands on intern_cells for `add`. Read `adds` first.
 #![tactic(auto)]
 
 mod adds;

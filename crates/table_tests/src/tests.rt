@@ -6,3 +6,4 @@ mod edges;
 mod histories;
 mod rules;
 mod tight_seats;
+mod worlds;

@@ -1,6 +1,6 @@
 //! Fillings of shapes by letters.
 ghost use Rattle.std.specs.Prelude.{◌≡◌, ℕ, ◌-◌, ◌<◌, slice_index_or};
-ghost use Rattle.vector_crystals.specs.Letters.{IsLetter, letter_count, letter_at};
+ghost use Rattle.vector_crystals.specs.Letters.{IsLetter};
 ghost use Rattle.tensor_words.specs.Codes.{IsWord};
 ghost use Rattle.tableau_reading.specs.Shapes.{box_count, shape_space};
 ghost use Rattle.tableau_reading.specs.Readings.{box, boxes_read};
@@ -10,8 +10,8 @@ use crate::parsing::some_word;
 use crate::shapes::Shape;
 use crystal_cartan::Cartan;
 use std::marker::Model;
-use tensor_words::Word;
-use vector_crystals::{Letter, digit, of_digit};
+use tensor_words::{Word, letter_digit, letter_of_digit};
+use vector_crystals::Letter;
 
 /// A shape with a letter of its type in every box.
 #[derive(Debug, Drop)]
@@ -98,8 +98,8 @@ impl Shape {
         let cartan = self.cartan();
         let mut word = some_word(&space);
         'places: for place in 0..self.boxes() {
-            let digit = digit(cartan, filling.letter_at(place));
-            word = space.put(&word, place, digit as u16);
+            let digit = letter_digit(cartan, filling.letter_at(place));
+            word = space.put(&word, place, digit);
         }
         word
     }
@@ -114,23 +114,11 @@ impl Shape {
         let cartan = self.cartan();
         let mut letters = [1; 40];
         'places: for place in 0..self.boxes() {
-            letters[place as usize] = letter_of(cartan, space.digit_in(word, place)).0;
+            letters[place as usize] = letter_of_digit(cartan, space.digit_in(word, place)).0;
         }
         Filling {
             shape: *self,
             letters,
         }
-    }
-}
-
-/// The letter with this digit.
-fn letter_of(cartan: Cartan, digit: u16) -> Letter
-    requires { digit < letter_count cartan }
-    ensures letter { result.0 ≡ letter_at cartan digit }
-    ensures of_type { IsLetter cartan result.0 }
-{
-    match of_digit(cartan, u32::from(digit)) {
-        Some(letter) => letter,
-        None => unreachable!(),
     }
 }

@@ -11,7 +11,7 @@ ghost use Rattle.tableau_reading.specs.Tokens.{negated, letter_value, digit_if_l
 
 use crystal_cartan::Cartan;
 use spin_crystals::{Half, Signs};
-use tensor_words::{Factor, Space, Word};
+use tensor_words::{Factor, Space, Word, letter_digit, signs_digit};
 use text_pieces::{count_words, first_word, read_digits};
 use vector_crystals::{Letter, is_letter};
 
@@ -97,7 +97,7 @@ fn read_letter(cartan: Cartan, token: &[u8]) -> Option<u16>
     let _classical = vector_crystals::base_size(cartan);
     let value = letter_value(token)?;
     if is_letter(cartan, value) {
-        Some(vector_crystals::digit(cartan, Letter(value)) as u16)
+        Some(letter_digit(cartan, Letter(value)))
     } else {
         None
     }
@@ -145,7 +145,7 @@ fn read_signs(cartan: Cartan, half: Half, token: &[u8]) -> Option<u16>
     }
     let signs = signs_of(token)?;
     if is_of_half(half, signs) {
-        Some(spin_crystals::digit(cartan, signs, half) as u16)
+        Some(signs_digit(cartan, half, signs))
     } else {
         None
     }

@@ -11,7 +11,7 @@ ghost use Rattle.tableau_reading.specs.Texts.{token, sign_byte, signs_text, word
 use crystal_cartan::{Cartan, Weight};
 use crystal_streams::Line;
 use spin_crystals::{Half, Signs};
-use tensor_words::{Factor, Space, Word};
+use tensor_words::{Factor, Space, Word, letter_of_digit, signs_of_digit};
 
 /// Appends a word: a token for each factor, with single blanks between them. A letter is printed in decimal,
 /// a vector of signs as its signs. That takes at most 160 bytes, for which there must be room.
@@ -60,7 +60,7 @@ fn print_token(space: &Space, word: &Word, place: u8, out: &mut Line)
     ensures { out.new ≡ out.old ++ token space.now.cartan (factor_at space.now place) (slice_index word.now place) }
 {
     let cartan = space.cartan();
-    let digit = u32::from(space.digit_in(word, place));
+    let digit = space.digit_in(word, place);
     match space.factor(place) {
         Factor::Vector => print_letter(cartan, digit, out),
         Factor::Spin => print_signs(cartan, Half::Whole, digit, out),
@@ -70,29 +70,24 @@ fn print_token(space: &Space, word: &Word, place: u8, out: &mut Line)
 }
 
 /// Appends the letter with this digit.
-fn print_letter(cartan: Cartan, digit: u32, out: &mut Line)
+fn print_letter(cartan: Cartan, digit: u16, out: &mut Line)
     requires digit { digit < letter_count cartan }
     requires room { length out.old + 20 ≤ 512 }
     ensures { out.new ≡ out.old ++ signed_decimal (letter_at cartan digit) }
 {
-    match vector_crystals::of_digit(cartan, digit) {
-        Some(letter) => out.number(i64::from(letter.0)),
-        None => unreachable!(),
-    }
+    let letter = letter_of_digit(cartan, digit);
+    out.number(i64::from(letter.0));
 }
 
 /// Appends the signs of the vector with this digit.
-fn print_signs(cartan: Cartan, half: Half, digit: u32, out: &mut Line)
+fn print_signs(cartan: Cartan, half: Half, digit: u16, out: &mut Line)
     requires half { HasHalf cartan half }
     requires digit { digit < half_size half cartan.rank }
     requires room { length out.old + 20 ≤ 512 }
     ensures { out.new ≡ out.old ++ signs_text (signs_at half cartan.rank digit) }
 {
     let _rank = cartan.rank();
-    match spin_crystals::of_digit(cartan, digit, half) {
-        Some(signs) => print_vector(signs, out),
-        None => unreachable!(),
-    }
+    print_vector(signs_of_digit(cartan, half, digit), out);
 }
 
 /// Appends the signs of a vector, at most eight.

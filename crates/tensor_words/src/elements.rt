@@ -14,7 +14,7 @@ use spin_crystals::{Half, Signs};
 use vector_crystals::Letter;
 
 /// The letter with this digit.
-fn letter(cartan: Cartan, digit: u16) -> Letter
+pub fn letter_of_digit(cartan: Cartan, digit: u16) -> Letter
     requires { digit < letter_count cartan }
     ensures value { result.0 ≡ letter_at cartan digit }
     ensures letter { IsLetter cartan result.0 }
@@ -25,8 +25,8 @@ fn letter(cartan: Cartan, digit: u16) -> Letter
     }
 }
 
-/// The digit of a letter.
-fn letter_digit(cartan: Cartan, x: Letter) -> u16
+/// The digit of a letter, as words have it.
+pub fn letter_digit(cartan: Cartan, x: Letter) -> u16
     requires { IsLetter cartan x.0 }
     ensures value { result ≡ letter_digit cartan x.0 }
     ensures below { result < letter_count cartan }
@@ -36,7 +36,7 @@ fn letter_digit(cartan: Cartan, x: Letter) -> u16
 }
 
 /// The vector of signs with this digit.
-fn signs(cartan: Cartan, half: Half, digit: u16) -> Signs
+pub fn signs_of_digit(cartan: Cartan, half: Half, digit: u16) -> Signs
     requires half { HasHalf cartan half }
     requires digit { digit < half_size half cartan.rank }
     ensures value { vector_of result ≡ signs_at half cartan.rank digit }
@@ -50,8 +50,8 @@ fn signs(cartan: Cartan, half: Half, digit: u16) -> Signs
     }
 }
 
-/// The digit of a vector of signs.
-fn signs_digit(cartan: Cartan, half: Half, x: Signs) -> u16
+/// The digit of a vector of signs, as words have it.
+pub fn signs_digit(cartan: Cartan, half: Half, x: Signs) -> u16
     requires half { HasHalf cartan half }
     requires element { IsSigns cartan x }
     requires parity { IsTrue (is_of_half half (vector_of x)) }
@@ -73,8 +73,8 @@ impl Space {
     {
         let cartan = self.cartan();
         match half_of(self.factor(place)) {
-            None => vector_crystals::eps(cartan, letter(cartan, digit), i),
-            Some(half) => spin_crystals::eps(cartan, signs(cartan, half, digit), i),
+            None => vector_crystals::eps(cartan, letter_of_digit(cartan, digit), i),
+            Some(half) => spin_crystals::eps(cartan, signs_of_digit(cartan, half, digit), i),
         }
     }
 
@@ -88,8 +88,8 @@ impl Space {
     {
         let cartan = self.cartan();
         match half_of(self.factor(place)) {
-            None => vector_crystals::phi(cartan, letter(cartan, digit), i),
-            Some(half) => spin_crystals::phi(cartan, signs(cartan, half, digit), i),
+            None => vector_crystals::phi(cartan, letter_of_digit(cartan, digit), i),
+            Some(half) => spin_crystals::phi(cartan, signs_of_digit(cartan, half, digit), i),
         }
     }
 
@@ -104,11 +104,11 @@ impl Space {
         let cartan = self.cartan();
         match half_of(self.factor(place)) {
             None => {
-                let y = vector_crystals::lower(cartan, letter(cartan, digit), i)?;
+                let y = vector_crystals::lower(cartan, letter_of_digit(cartan, digit), i)?;
                 Some(letter_digit(cartan, y))
             }
             Some(half) => {
-                let y = spin_crystals::lower(cartan, signs(cartan, half, digit), i)?;
+                let y = spin_crystals::lower(cartan, signs_of_digit(cartan, half, digit), i)?;
                 Some(signs_digit(cartan, half, y))
             }
         }
@@ -125,11 +125,11 @@ impl Space {
         let cartan = self.cartan();
         match half_of(self.factor(place)) {
             None => {
-                let y = vector_crystals::raise(cartan, letter(cartan, digit), i)?;
+                let y = vector_crystals::raise(cartan, letter_of_digit(cartan, digit), i)?;
                 Some(letter_digit(cartan, y))
             }
             Some(half) => {
-                let y = spin_crystals::raise(cartan, signs(cartan, half, digit), i)?;
+                let y = spin_crystals::raise(cartan, signs_of_digit(cartan, half, digit), i)?;
                 Some(signs_digit(cartan, half, y))
             }
         }
@@ -146,8 +146,8 @@ impl Space {
     {
         let cartan = self.cartan();
         match half_of(self.factor(place)) {
-            None => vector_crystals::weight(cartan, letter(cartan, digit)),
-            Some(half) => spin_crystals::weight(cartan, signs(cartan, half, digit)),
+            None => vector_crystals::weight(cartan, letter_of_digit(cartan, digit)),
+            Some(half) => spin_crystals::weight(cartan, signs_of_digit(cartan, half, digit)),
         }
     }
 }

@@ -12,7 +12,8 @@
 //! to read first. Contracts see a space as its Cartan type, its list of factors and its order, a word as its list of
 //! digits, and a world as its space, its number of cells and the list of its roots' codes.
 //!
-//! **Stands on** crystal_cartan, and on vector_crystals and spin_crystals for the elements of the factors (`elements`).
+//! **Stands on** crystal_cartan, and on vector_crystals and spin_crystals for the elements of the factors (`elements`,
+//! which gives their digits as words have them, and the reverse).
 #![tactic(auto)]
 
 mod elements;
@@ -27,6 +28,7 @@ mod weights;
 mod words;
 mod worlds;
 
+pub use elements::{letter_digit, letter_of_digit, signs_digit, signs_of_digit};
 pub use laws::{
     arrows_lead_back, codes_are_lexicographic, codes_correspond, codes_of_products,
     component_list_is_unique, law_of_reversal, lengths_of_strings, one_factor_rule,

@@ -5,6 +5,7 @@ mod pieces;
 mod places;
 mod readings;
 mod signatures;
+mod spaces;
 mod spins;
 mod streams;
 mod tensors;

@@ -2,6 +2,7 @@
 ghost use Rattle.std.specs.Prelude.{◌≡◌, ◌≤◌, Contains};
 ghost use Rattle.graph_rule.specs.Parting.{first_view};
 
+use super::meetings::{MOST_TURNS, Meeting};
 use crystal_cartan::{Cartan, Kind};
 use crystal_growers::{Grown, finished, grow};
 use crystal_streams::{Gate, NoMemory, OpenGate};
@@ -151,48 +152,17 @@ fn from_the_lowest_letter(rt: HostRuntime) -> Result<(), NoMemory> {
     Ok(())
 }
 
-/// A gate at whose start each of two workers waits until both have come, for so many turns at most.
-#[derive(Drop)]
-struct Meeting {
-    came: AtomicU64,
-    missed: AtomicU64,
-}
-
-const BOTH: u64 = 3;
-
-const MOST_TURNS: u64 = 1_000_000_000;
-
-impl Gate for Meeting {
-    fn pass(&self, worker: u32, turn: u64) {
-        if turn != 0 {
-            return;
-        }
-        if worker < 2 {
-            self.came.fetch_or(1 << worker, Ordering::SeqCst);
-            for _ in 0..MOST_TURNS {
-                if self.came.load(Ordering::SeqCst) == BOTH {
-                    return;
-                }
-            }
-        }
-        self.missed.fetch_add(1, Ordering::SeqCst);
-    }
-}
-
 #[test]
 fn growers_run_side_by_side(rt: HostRuntime) -> Result<(), NoMemory> {
-    let gate = Meeting {
-        came: AtomicU64::new(0),
-        missed: AtomicU64::new(0),
-    };
+    let both = (1 << 0) | (1 << 1);
+    let gate = Meeting::of(both);
     let ended = grow_words(&rt, rt.alloc(), 8, 2, &gate)?;
     let all = Outcome::Closed {
         debts: 0,
         vertices: 8,
     };
     assert_eq!(rt; ended, Some(all));
-    assert_eq!(rt; gate.came.load(Ordering::SeqCst), BOTH);
-    assert_eq!(rt; gate.missed.load(Ordering::SeqCst), 0);
+    assert_eq!(rt; gate.counts(), (0, both));
     Ok(())
 }
 

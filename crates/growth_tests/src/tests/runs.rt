@@ -1,12 +1,12 @@
 //! Runs of jobs in A_1 over words of two letters: `1 1` reaches three words, `2 1` is alone.
 ghost use Rattle.std.specs.Prelude.{◌≤◌};
 
+use super::meetings::Meeting;
 use crystal_streams::{Gate, NoMemory, OpenGate};
 use graph_runs::{Ran, run_beside};
-use job_text::{Job, read_job};
+use job_text::{Job, MOST_JOB_BYTES, read_job};
 use session_desk::{Replies, Reply};
 use std::alloc::Global;
-use std::sync::atomic::{AtomicU64, Ordering};
 use std::thread::Threads;
 
 /// What came of a job; `None` where it is refused.
@@ -19,7 +19,7 @@ fn run_text<R: Threads + Sync, G: Gate>(
 ) -> Result<Option<Ran>, NoMemory>
     requires { (1 ≤ growers) × (growers ≤ 16) }
 {
-    if text.len() > 1_048_576 {
+    if text.len() > MOST_JOB_BYTES {
         return Ok(None);
     }
     match read_job(alloc, text.as_bytes()) {
@@ -84,40 +84,15 @@ fn sixteen_sessions_add_one_word(rt: HostRuntime) -> Result<(), NoMemory> {
     Ok(())
 }
 
-/// A gate at whose start each worker waits until another one has come, for so many turns at most.
-#[derive(Drop)]
-struct Meeting {
-    came: AtomicU64,
-    missed: AtomicU64,
-}
-
-const MOST_TURNS: u64 = 1_000_000_000;
-
-impl Gate for Meeting {
-    fn pass(&self, _worker: u32, turn: u64) {
-        if turn != 0 {
-            return;
-        }
-        self.came.fetch_add(1, Ordering::SeqCst);
-        for _ in 0..MOST_TURNS {
-            if self.came.load(Ordering::SeqCst) > 1 {
-                return;
-            }
-        }
-        self.missed.fetch_add(1, Ordering::SeqCst);
-    }
-}
-
 #[test]
 fn a_session_runs_beside_a_grower(rt: HostRuntime) -> Result<(), NoMemory> {
-    let gate = Meeting {
-        came: AtomicU64::new(0),
-        missed: AtomicU64::new(0),
-    };
+    // The grower, and the session 1, which comes behind 16 growers.
+    let both = (1 << 0) | (1 << 17);
+    let gate = Meeting::of(both);
     let text = "crystal-job 1\ntype A 1\nspace v v\nstart 1 1\nsession\nadd 1 1\n";
     let ran = run_text(&rt, rt.alloc(), text, 1, &gate)?;
     let ran = ran.expect(&rt, "the job is accepted");
     assert_eq!(rt; times(ran.told.as_slice(), Reply::Old), 1);
-    assert_eq!(rt; gate.missed.load(Ordering::SeqCst), 0);
+    assert_eq!(rt; gate.counts(), (0, both));
     Ok(())
 }

@@ -4,14 +4,14 @@ ghost use Rattle.session_desk.specs.Texts.{IsPrintable};
 use crystal_cartan::{Cartan, Kind, Weight};
 use crystal_streams::{Line, NoMemory};
 use graph_history::PlainDesk;
-use job_text::{Job, read_job};
+use job_text::{Job, MOST_JOB_BYTES, read_job};
 use session_desk::{Replies, Reply, reply_line, run_sessions};
 use std::alloc::Global;
 use tensor_words::{Factor, Space};
 
 /// What the sessions of a job are told, one after another; `None` where the job is refused.
 fn told(alloc: Global, text: &str) -> Result<Option<Vec<Replies>>, NoMemory> {
-    if text.len() > 1_048_576 {
+    if text.len() > MOST_JOB_BYTES {
         return Ok(None);
     }
     match read_job(alloc, text.as_bytes()) {

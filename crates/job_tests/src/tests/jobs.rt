@@ -1,14 +1,11 @@
 //! What is read of a job that has every key word. Refused jobs and limits stand as rows and tables under tests/.
 use crystal_cartan::{Arrow, Kind};
-use job_text::{Ask, Command, Job, read_job, sample_job, sample_text};
+use job_text::{Ask, Command, Job, MOST_JOB_BYTES, read_job, sample_job, sample_text};
 use std::alloc::Global;
 use tensor_words::Codes;
 
-/// The most bytes of a job.
-const MOST_BYTES: usize = 1_048_576;
-
 fn job(alloc: Global, text: &[u8]) -> Option<Job> {
-    if text.len() > MOST_BYTES {
+    if text.len() > MOST_JOB_BYTES {
         return None;
     }
     read_job(alloc, text).ok()

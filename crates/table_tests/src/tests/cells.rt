@@ -2,28 +2,19 @@
 ghost use Rattle.std.specs.Prelude.{◌≡◌, ◌<◌, ◌≤◌, ◌+◌, Contains};
 ghost use Rattle.graph_rule.specs.Values.{Belongs};
 
-use crystal_cartan::{Cartan, Kind};
+use super::worlds::world;
 use crystal_streams::NoMemory;
 use graph_history::{Added, Origin};
 use graph_rule::{Graph, Seat, tally};
 use intern_cells::{add, add_at, find, word};
 use std::alloc::Global;
 use std::thread::{Threads, join};
-use tensor_words::{Codes, Factor, Space, World};
+use tensor_words::{Factor, World};
 
-/// The words of two letters in A_1, with the roots `1 1` and `2 1`.
-fn world(alloc: Global, cells: u32) -> Result<Option<World>, NoMemory> {
-    let roots = Codes::of(Vec::from_array(alloc, [0, 2])?);
-    let Ok(cartan) = Cartan::new(Kind::A, 1) else {
-        return Ok(None);
-    };
-    let Ok(space) = Space::new(cartan, &[Factor::Vector, Factor::Vector]) else {
-        return Ok(None);
-    };
-    if roots.len() > 2 {
-        return Ok(None);
-    }
-    Ok(World::new(space, cells, roots).ok())
+/// The words of two letters, with the roots `1 1` and `2 1`.
+fn two_letters(alloc: Global, cells: u32) -> Result<Option<World>, NoMemory> {
+    let roots = Vec::from_array(alloc, [0, 2])?;
+    Ok(world(&[Factor::Vector, Factor::Vector], cells, roots))
 }
 
 /// Adds a root, `None` where the code is that of no root.
@@ -78,7 +69,7 @@ fn word_at(graph: &Graph, seat: &mut Seat, cell: u32) -> Option<Option<u64>>
 
 #[test]
 fn one_cell(rt: HostRuntime) -> Result<(), NoMemory> {
-    let world = world(rt.alloc(), 1)?.expect(&rt, "a world of one cell");
+    let world = two_letters(rt.alloc(), 1)?.expect(&rt, "a world of one cell");
     let (graph, mut seat) = Graph::new(rt.alloc(), world)?;
     let before = tally(&graph, &mut seat);
     let first = add_root(&graph, &mut seat, 0);
@@ -107,7 +98,7 @@ fn one_cell(rt: HostRuntime) -> Result<(), NoMemory> {
 /// A right place, one that is empty, one past the last cell, and one with another word; and a new word at a wrong place.
 #[test]
 fn near_or_not(rt: HostRuntime) -> Result<(), NoMemory> {
-    let world = world(rt.alloc(), 4)?.expect(&rt, "a world of four cells");
+    let world = two_letters(rt.alloc(), 4)?.expect(&rt, "a world of four cells");
     let (graph, mut seat) = Graph::new(rt.alloc(), world)?;
     let Some(Added::New { cell }) = add_root_at(&graph, &mut seat, 2, 3) else {
         panic!(rt; "the word is new");
@@ -171,7 +162,7 @@ fn one_cell_of(one: Option<Added>, two: Option<Added>) -> Option<u32> {
 
 #[test]
 fn two_seats(rt: HostRuntime) -> Result<(), NoMemory> {
-    let world = world(rt.alloc(), 4)?.expect(&rt, "a world of four cells");
+    let world = two_letters(rt.alloc(), 4)?.expect(&rt, "a world of four cells");
     let (graph, mut seat) = Graph::new(rt.alloc(), world)?;
     let child = seat.split(&graph, 1, 1);
     assert_eq!(rt;

@@ -3,29 +3,13 @@ ghost use Rattle.std.specs.Prelude.{◌≡◌, ◌≤◌, ◌+◌, ◌*◌, Cont
 ghost use Rattle.std.specs.Thread.{IsSync};
 ghost use Rattle.graph_rule.specs.Values.{Belongs};
 
-use crystal_cartan::{Cartan, Kind};
+use super::worlds::world;
 use crystal_streams::NoMemory;
 use graph_history::{Added, Origin};
 use graph_rule::{Graph, Seat};
 use intern_cells::add;
-use std::alloc::Global;
 use std::thread::{Threads, join};
-use tensor_words::{Codes, Factor, Space, World};
-
-/// A world of four cells: the words of two letters in A_1, with one root.
-fn world(alloc: Global) -> Result<Option<World>, NoMemory> {
-    let roots = Codes::of(Vec::from_array(alloc, [2])?);
-    let Ok(cartan) = Cartan::new(Kind::A, 1) else {
-        return Ok(None);
-    };
-    let Ok(space) = Space::new(cartan, &[Factor::Vector, Factor::Vector]) else {
-        return Ok(None);
-    };
-    if roots.len() > 1 {
-        return Ok(None);
-    }
-    Ok(World::new(space, 4, roots).ok())
-}
+use tensor_words::Factor;
 
 /// Adds the root from one seat; answers the seat, and 1 where it was told that the root is new.
 fn from_one(graph: &Graph, mut seat: Seat, root: u64) -> (Seat, u32)
@@ -113,7 +97,11 @@ fn from_eight<R: Threads + Sync>(rt: &R, graph: &Graph, mut seat: Seat, root: u6
 
 #[test]
 fn one_of_eight_is_new(rt: HostRuntime) -> Result<(), NoMemory> {
-    let world = world(rt.alloc())?.expect(&rt, "a world of four cells");
+    let roots = Vec::from_array(rt.alloc(), [2])?;
+    let world = world(&[Factor::Vector, Factor::Vector], 4, roots).expect(
+        &rt,
+        "a world of four cells",
+    );
     let (graph, seat) = Graph::new(rt.alloc(), world)?;
     assert!(rt; graph.world().has_root(2));
     let (seat, fresh) = from_eight(&rt, &graph, seat, 2);

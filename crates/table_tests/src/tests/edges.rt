@@ -4,28 +4,14 @@ ghost use Rattle.tensor_words.specs.Operators.{IsArrow, op};
 ghost use Rattle.graph_rule.specs.Layout.{home};
 ghost use Rattle.graph_rule.specs.Values.{Belongs};
 
-use crystal_cartan::{Arrow, Cartan, Kind};
+use super::worlds::world;
+use crystal_cartan::Arrow;
 use crystal_streams::NoMemory;
 use edge_words::{look, set};
 use graph_history::{Look, Origin};
 use graph_rule::{Graph, Seat, claim, load_cell, owe, release, settle};
-use std::alloc::Global;
-use tensor_words::{Codes, Factor, Space, World, next_code};
-
-/// The two words of one letter in A_1, both roots, and two cells.
-fn world(alloc: Global) -> Result<Option<World>, NoMemory> {
-    let roots = Codes::of(Vec::from_array(alloc, [0, 1])?);
-    let Ok(cartan) = Cartan::new(Kind::A, 1) else {
-        return Ok(None);
-    };
-    let Ok(space) = Space::new(cartan, &[Factor::Vector]) else {
-        return Ok(None);
-    };
-    if roots.len() > 2 {
-        return Ok(None);
-    }
-    Ok(World::new(space, 2, roots).ok())
-}
+use intern_cells::SPREAD;
+use tensor_words::{Factor, Space, next_code};
 
 /// The first cell of a code's path.
 #[tactic(auto, unfolding(graph_rule::specs::Layout::home))]
@@ -34,7 +20,7 @@ fn home(code: u64, cells: u32) -> u32
     ensures value { result ≡ home cells code }
     ensures below { result < cells }
 {
-    ((code.wrapping_mul(11_400_714_819_323_198_485) >> 32) % u64::from(cells)) as u32
+    ((code.wrapping_mul(SPREAD) >> 32) % u64::from(cells)) as u32
 }
 
 /// Puts a root into the first cell of its path, and says which it is, if the cell is empty.
@@ -118,7 +104,8 @@ fn look_at(graph: &Graph, seat: &mut Seat, cell: u32, arrow: Arrow) -> Option<Lo
 
 #[test]
 fn two_words(rt: HostRuntime) -> Result<(), NoMemory> {
-    let world = world(rt.alloc())?.expect(&rt, "a world of two words");
+    let roots = Vec::from_array(rt.alloc(), [0, 1])?;
+    let world = world(&[Factor::Vector], 2, roots).expect(&rt, "a world of two words");
     let (graph, mut seat) = Graph::new(rt.alloc(), world)?;
     let _nothing = settle(&graph, &seat);
     let one = put(&graph, &mut seat, 0).expect(&rt, "room for the word 1");

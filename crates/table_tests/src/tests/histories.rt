@@ -1,9 +1,10 @@
 //! A desk over lists in memory, by calls.
-use crystal_cartan::{Arrow, Cartan, Kind};
+use super::worlds::world;
+use crystal_cartan::Arrow;
 use crystal_streams::NoMemory;
 use graph_history::{Added, Desk, Draw, Look, PlainDesk};
 use std::alloc::Global;
-use tensor_words::{Codes, Factor, Space, World};
+use tensor_words::Factor;
 
 const F_1: Arrow = Arrow {
     down: true,
@@ -15,18 +16,8 @@ const E_1: Arrow = Arrow {
     index: 1,
 };
 
-/// The words of two letters in A_1, with these roots.
-fn world(cells: u32, roots: Codes) -> Option<World> {
-    let cartan = Cartan::new(Kind::A, 1).ok()?;
-    let space = Space::new(cartan, &[Factor::Vector, Factor::Vector]).ok()?;
-    if roots.len() > 2 {
-        return None;
-    }
-    World::new(space, cells, roots).ok()
-}
-
 fn desk(alloc: Global, cells: u32, roots: Vec<u64>) -> Result<Option<PlainDesk>, NoMemory> {
-    match world(cells, Codes::of(roots)) {
+    match world(&[Factor::Vector, Factor::Vector], cells, roots) {
         Some(world) => Ok(Some(PlainDesk::new(alloc, world, 0)?)),
         None => Ok(None),
     }

@@ -1,28 +1,13 @@
 //! The calls that no caller on words makes, once each.
-use crystal_cartan::{Cartan, Kind};
+use super::worlds::world;
 use crystal_streams::NoMemory;
 use graph_rule::{Graph, owe, release, tally};
-use std::alloc::Global;
-use tensor_words::{Codes, Factor, Space, World};
-
-/// The words of one letter in A_1, in two cells, with the root `1`.
-fn world(alloc: Global) -> Result<Option<World>, NoMemory> {
-    let roots = Codes::of(Vec::from_array(alloc, [0])?);
-    let Ok(cartan) = Cartan::new(Kind::A, 1) else {
-        return Ok(None);
-    };
-    let Ok(space) = Space::new(cartan, &[Factor::Vector]) else {
-        return Ok(None);
-    };
-    if roots.len() > 1 {
-        return Ok(None);
-    }
-    Ok(World::new(space, 2, roots).ok())
-}
+use tensor_words::Factor;
 
 #[test]
 fn debts_and_seats(rt: HostRuntime) -> Result<(), NoMemory> {
-    let world = world(rt.alloc())?.expect(&rt, "a world of two cells");
+    let roots = Vec::from_array(rt.alloc(), [0])?;
+    let world = world(&[Factor::Vector], 2, roots).expect(&rt, "a world of two cells");
     let (graph, mut seat) = Graph::new(rt.alloc(), world)?;
     let own = (seat.number(), seat.numbers_left(), seat.stake());
     owe(&graph, &mut seat);

@@ -3,27 +3,22 @@ ghost use Rattle.std.specs.Prelude.{◌≡◌};
 ghost use Rattle.graph_rule.specs.Values.{Belongs};
 
 use super::cells::{add_root, find_code};
-use crystal_cartan::{Cartan, Kind};
+use super::worlds::world;
 use crystal_streams::NoMemory;
 use graph_history::Added;
 use graph_rule::{Graph, Seat};
 use std::alloc::Global;
 use std::thread::{Threads, join};
-use tensor_words::{Codes, Factor, Space, World};
+use tensor_words::{Factor, World};
 
-/// The eight words of three letters in A_1, all of them roots.
-fn world(alloc: Global, cells: u32) -> Result<Option<World>, NoMemory> {
-    let roots = Codes::of(Vec::from_array(alloc, [0, 1, 2, 3, 4, 5, 6, 7])?);
-    let Ok(cartan) = Cartan::new(Kind::A, 1) else {
-        return Ok(None);
-    };
-    let Ok(space) = Space::new(cartan, &[Factor::Vector, Factor::Vector, Factor::Vector]) else {
-        return Ok(None);
-    };
-    if roots.len() > 8 {
-        return Ok(None);
-    }
-    Ok(World::new(space, cells, roots).ok())
+/// The eight words of three letters, all of them roots.
+fn eight_roots(alloc: Global, cells: u32) -> Result<Option<World>, NoMemory> {
+    let roots = Vec::from_array(alloc, [0, 1, 2, 3, 4, 5, 6, 7])?;
+    Ok(world(
+        &[Factor::Vector, Factor::Vector, Factor::Vector],
+        cells,
+        roots,
+    ))
 }
 
 /// What a seat was told of each code, in the order in which it added them.
@@ -93,7 +88,7 @@ fn count(up: &Answers, down: &Answers, wanted: Told) -> usize {
 #[test]
 fn against_each_other(rt: HostRuntime) -> Result<(), NoMemory> {
     for (cells, in_one_cell, in_none) in [(8, 8, 0), (7, 7, 1)] {
-        let world = world(rt.alloc(), cells)?.expect(&rt, "a world of eight roots");
+        let world = eight_roots(rt.alloc(), cells)?.expect(&rt, "a world of eight roots");
         let (graph, mut seat) = Graph::new(rt.alloc(), world)?;
         let child = seat.split(&graph, 1, 1);
         let (first, second) = add_against(&rt, &graph, seat, child);
@@ -110,7 +105,7 @@ fn against_each_other(rt: HostRuntime) -> Result<(), NoMemory> {
 /// After a seat was dropped its stake is lost. Words are put in and found as before.
 #[test]
 fn a_lost_seat(rt: HostRuntime) -> Result<(), NoMemory> {
-    let world = world(rt.alloc(), 8)?.expect(&rt, "a world of eight roots");
+    let world = eight_roots(rt.alloc(), 8)?.expect(&rt, "a world of eight roots");
     let (graph, mut seat) = Graph::new(rt.alloc(), world)?;
     drop(seat.split(&graph, 1, 1));
     assert_eq!(rt; seat.stake(), 65_535);

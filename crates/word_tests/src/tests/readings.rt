@@ -1,6 +1,7 @@
 //! Words, letters, shapes, their tops and fillings, read and printed.
 ghost use Rattle.tensor_words.specs.Codes.{IsWord};
 
+use super::spaces::made;
 use crystal_cartan::{Cartan, Kind};
 use crystal_streams::Line;
 use tableau_reading::{Filling, Shape, ShapeFault, WordFault, print_weight, print_word, read_word};
@@ -14,10 +15,6 @@ const S: Factor = Factor::Spin;
 const P: Factor = Factor::SpinPlus;
 
 const M: Factor = Factor::SpinMinus;
-
-fn space_of(kind: Kind, rank: u8, factors: &[Factor]) -> Option<Space> {
-    Space::new(Cartan::new(kind, rank).ok()?, factors).ok()
-}
 
 fn shape_of(kind: Kind, rank: u8, rows: &[u32]) -> Option<Result<Shape, ShapeFault>> {
     Some(Shape::new(rows, Cartan::new(kind, rank).ok()?))
@@ -74,7 +71,7 @@ fn put_letter(filling: &mut Filling, row: u8, column: u8, value: i8) -> Option<L
 
 #[test]
 fn words(rt: HostRuntime) {
-    let b2 = space_of(Kind::B, 2, &[S, V]).expect(&rt, "B_2 has spin elements");
+    let b2 = made(Kind::B, 2, &[S, V]).expect(&rt, "B_2 has spin elements");
     assert!(rt; is_read(&b2, "+- 0", "+- 0") && is_read(&b2, "  --  -02 ", "-- -2"));
     assert_eq!(rt; code_read(&b2, "+- 0"), Some(7));
     assert!(rt; has_weight(&b2, "+- 0", "1/2 -1/2"));
@@ -91,13 +88,13 @@ fn words(rt: HostRuntime) {
             "{text}"
         );
     }
-    let d3 = space_of(Kind::D, 3, &[P]).expect(&rt, "D_3 has spin elements");
+    let d3 = made(Kind::D, 3, &[P]).expect(&rt, "D_3 has spin elements");
     assert!(rt; is_read(&d3, "+--", "+--"));
     assert_eq!(rt;
         read_word(&d3, b"+-+").err(),
         Some(WordFault::BadSigns { place: 1 })
     );
-    let odd = space_of(Kind::D, 3, &[V, M]).expect(&rt, "D_3 has spin elements");
+    let odd = made(Kind::D, 3, &[V, M]).expect(&rt, "D_3 has spin elements");
     assert!(rt; is_read(&odd, "-3 +-+", "-3 +-+"));
     assert_eq!(rt;
         read_word(&odd, b"-3 +--").err(),
@@ -107,7 +104,7 @@ fn words(rt: HostRuntime) {
 
 #[test]
 fn letters(rt: HostRuntime) {
-    let b2 = space_of(Kind::B, 2, &[V]).expect(&rt, "B_2 has vectors");
+    let b2 = made(Kind::B, 2, &[V]).expect(&rt, "B_2 has vectors");
     for (text, printed) in [("01", "1"), ("-01", "-1"), ("00", "0"), ("2", "2")] {
         assert!(rt; is_read(&b2, text, printed), "{text}");
     }

@@ -1,16 +1,14 @@
-//! Worked words in both tensor orders, and the pass over a word beside the recursion.
+//! Worked words in both tensor orders by the recursion and by the pass, and the pass beside the recursion.
 ghost use Rattle.crystal_cartan.specs.Types.{HasIndex};
 ghost use Rattle.tensor_words.specs.Codes.{IsWord};
 
-use crystal_cartan::{Arrow, Cartan, Kind};
+use super::spaces::made;
+use super::tensors;
+use crystal_cartan::{Arrow, Kind};
 use signature_rule::{act, eps, lift, lower, phi, raise, word_laws};
 use tensor_words::{Factor, Order, Space, Word};
 
 const V: Factor = Factor::Vector;
-
-fn made(kind: Kind, rank: u8, factors: &[Factor]) -> Option<Space> {
-    Space::new(Cartan::new(kind, rank).ok()?, factors).ok()
-}
 
 /// The codes of f_i and e_i of the word with this code, and its phi_i and eps_i.
 fn strings(space: &Space, code: u64, i: u8) -> Option<(Option<u64>, Option<u64>, u32, u32)> {
@@ -91,12 +89,24 @@ fn worked_words(rt: HostRuntime) {
     ];
     for (kind, rank, factors, order, code, wanted) in table {
         let space = made(kind, rank, factors).expect(&rt, "the type has vectors");
+        assert_eq!(rt; space.order(), Order::Standard);
+        let space = space.ordered(order);
+        assert_eq!(rt; space.order(), order);
         assert_eq!(rt;
-            strings(&space.ordered(order), code, 1),
+            tensors::strings(&space, code, 1),
             Some(wanted),
-            "{code}"
+            "{code} by the recursion"
+        );
+        assert_eq!(rt;
+            strings(&space, code, 1),
+            Some(wanted),
+            "{code} by the pass"
         );
     }
+}
+
+#[test]
+fn a_word_lifted(rt: HostRuntime) {
     let a1 = made(Kind::A, 1, &[V, V]).expect(&rt, "A_1 has vectors");
     for order in [Order::Standard, Order::Kashiwara] {
         assert_eq!(rt; lifted(&a1.ordered(order), 3), Some((0, 2)));

@@ -211,7 +211,7 @@ impl Write for Barrel {
 }
 
 #[test]
-fn the_edge_loses_and_repeats_no_byte(rt: HostRuntime) -> Result<(), Fail> {
+fn the_edge_loses_no_byte_and_adds_none(rt: HostRuntime) -> Result<(), Fail> {
     let mut input = InputAdapter::new(Spring { left: 10000 });
     let read = read_all(rt.alloc(), &mut input, 20000);
     assert_eq!(rt; read.map(|bytes| bytes.len()), Ok(10000));

@@ -1,13 +1,10 @@
-//! Codes, operators in both orders, weights, faults and roots of small spaces.
+//! Codes, weights, faults and roots of small spaces.
+use super::spaces::made;
 use crystal_cartan::{Arrow, Cartan, Kind};
 use std::alloc::{AllocError, Global};
-use tensor_words::{Codes, Factor, Order, Space, SpaceFault, World, WorldFault, next_code};
+use tensor_words::{Codes, Factor, Space, SpaceFault, World, WorldFault, next_code};
 
 const V: Factor = Factor::Vector;
-
-fn made(kind: Kind, rank: u8, factors: &[Factor]) -> Option<Space> {
-    Space::new(Cartan::new(kind, rank).ok()?, factors).ok()
-}
 
 fn refused(kind: Kind, rank: u8, factors: &[Factor]) -> Option<SpaceFault> {
     Space::new(Cartan::new(kind, rank).ok()?, factors).err()
@@ -44,7 +41,11 @@ fn codes(rt: HostRuntime) {
 }
 
 /// The codes of f_i and e_i of the word with this code, and its phi_i and eps_i.
-fn strings(space: &Space, code: u64, i: u8) -> Option<(Option<u64>, Option<u64>, u32, u32)> {
+pub(super) fn strings(
+    space: &Space,
+    code: u64,
+    i: u8,
+) -> Option<(Option<u64>, Option<u64>, u32, u32)> {
     if !space.cartan().has_index(i) {
         return None;
     }
@@ -71,69 +72,6 @@ fn strings(space: &Space, code: u64, i: u8) -> Option<(Option<u64>, Option<u64>,
         space.by_rule_phi(&word, i),
         space.by_rule_eps(&word, i),
     ))
-}
-
-/// In Kashiwara's order the words of C_2 and A_1 are those before them, read from right to left.
-#[test]
-fn operators(rt: HostRuntime) {
-    let table = [
-        (
-            Kind::C,
-            2,
-            &[V, V, V] as &[Factor],
-            Order::Standard,
-            33,
-            (Some(37), Some(32), 2, 1),
-        ),
-        (
-            Kind::A,
-            1,
-            &[V, V],
-            Order::Standard,
-            0,
-            (Some(1), None, 2, 0),
-        ),
-        (
-            Kind::A,
-            1,
-            &[V, V],
-            Order::Standard,
-            1,
-            (Some(3), Some(0), 1, 1),
-        ),
-        (
-            Kind::A,
-            1,
-            &[V, V],
-            Order::Standard,
-            3,
-            (None, Some(1), 0, 2),
-        ),
-        (
-            Kind::C,
-            2,
-            &[V, V, V],
-            Order::Kashiwara,
-            18,
-            (Some(22), Some(2), 2, 1),
-        ),
-        (Kind::A, 1, &[V, V], Order::Kashiwara, 1, (None, None, 0, 0)),
-        (
-            Kind::A,
-            1,
-            &[V, V],
-            Order::Kashiwara,
-            2,
-            (Some(3), Some(0), 1, 1),
-        ),
-    ];
-    for (kind, rank, factors, order, code, wanted) in table {
-        let space = made(kind, rank, factors).expect(&rt, "the type has vectors");
-        assert_eq!(rt; space.order(), Order::Standard);
-        let space = space.ordered(order);
-        assert_eq!(rt; space.order(), order);
-        assert_eq!(rt; strings(&space, code, 1), Some(wanted), "{code}");
-    }
 }
 
 /// The first two coordinates of the weight of the word with this code.

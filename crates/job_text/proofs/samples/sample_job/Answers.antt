@@ -1,4 +1,5 @@
 use Rattle.std.proofs.Common.{◌≡◌, ◌∙◌, ◌≤◌, ℕ, List, length, sym, subst}
+use Rattle.job_text.specs.Jobs.{most_job_bytes}
 use Rattle.job_text.specs.Samples.{sample}
 use Rattle.job_text.proofs.SampleJobs.{samples_short}
 use Rattle.job_text.proofs.SampleWriting.{sample_ok, sample_read}
@@ -7,7 +8,7 @@ use Rattle.job_text.proofs.samples.sample_job.Goals as goal
 pub sure_job-requires-clause-short : goal.sure_job-requires-clause-short
 sure_job-requires-clause-short c =
     let is : c.as_slice.result.now ≡ sample c.args.number = c.as_slice.ensures.value ∙ c.in_ok-text.ensures in
-    subst (λ (bytes : List ℕ). length bytes ≤ 1048576) (sym is) (samples_short c.args.number)
+    subst (λ (bytes : List ℕ). length bytes ≤ most_job_bytes) (sym is) (samples_short c.args.number)
 
 pub sure_job-requires-clause-judged : goal.sure_job-requires-clause-judged
 sure_job-requires-clause-judged c = sample_ok c.args.number c.as_slice.result.now (c.as_slice.ensures.value ∙ c.in_ok-text.ensures)

@@ -1,12 +1,13 @@
 use Rattle.std.proofs.Common.{◌≡◌, ◌∙◌, ◌≤◌, ℕ, List, length, sym, ap, subst, arith}
 use Rattle.tensor_words.specs.Spaces.{SpaceType}
 use Rattle.tensor_words.specs.Codes.{word_of}
+use Rattle.job_text.specs.Jobs.{most_job_bytes}
 use Rattle.job_text.proofs.SampleJobs.{head_length}
 use Rattle.job_text.proofs.SampleWriting.{IsSampleTo, sample_begins, session_written, sample_ends, head_known, head_ok, start_known}
 use Rattle.job_text.proofs.samples.sample_text.Goals as goal
 
 pub sure_job-requires-clause-short : goal.sure_job-requires-clause-short
-sure_job-requires-clause-short c = subst (λ (bytes : List ℕ). length bytes ≤ 1048576) (sym c.head_text.ensures) (head_length c.args.number)
+sure_job-requires-clause-short c = subst (λ (bytes : List ℕ). length bytes ≤ most_job_bytes) (sym c.head_text.ensures) (head_length c.args.number)
 
 pub sure_job-requires-clause-judged : goal.sure_job-requires-clause-judged
 sure_job-requires-clause-judged c = head_ok c.args.number c.head_text.result.now c.head_text.ensures

@@ -1,7 +1,7 @@
 use Rattle.std.proofs.Common.{◌≡◌, ◌<◌, ◌≤◌, ◌-◌, ℕ, List, length, ap, sym, ◌∙◌, arith, get_or}
 use Rattle.tensor_words.specs.declared.spaces.Order.TheVariants.{Standard, Kashiwara}
 use Rattle.tensor_words.specs.Spaces.{SpaceType}
-use Rattle.signature_rule.specs.Places.{place_in}
+use Rattle.signature_rule.specs.Places.{entry_place}
 use Rattle.signature_rule.proofs.PassSteps.{lower_end}
 use Rattle.signature_rule.proofs.BothPasses.{bottom_end}
 use Rattle.signature_rule.proofs.Lanes.{AreSignLanes, sign_lanes, few_more, last_lanes, first_lanes, closes_in, opens_in}
@@ -37,12 +37,12 @@ returns-in-Standard c =
     let all : length s.factors ≤ c.factors.place = omega (arith, ap (λ (t : SpaceType). length t.factors) c.space-space.ensures.value) in
     record {
       lower = λ i index.
-          closes_in s Standard i c.args.word.now (place_in (get_or c.factors.last_closing (i - 1) 0)) order
-          (lower_end s i c.args.word.now c.factors.place (get_or c.factors.open (i - 1) 0) (place_in (get_or c.factors.last_closing (i - 1) 0))
+          closes_in s Standard i c.args.word.now (entry_place (get_or c.factors.last_closing (i - 1) 0)) order
+          (lower_end s i c.args.word.now c.factors.place (get_or c.factors.open (i - 1) 0) (entry_place (get_or c.factors.last_closing (i - 1) 0))
           c.space-space.ensures.space index c.requires all (c.factors.invariant.last i index));
       raise = λ i index.
-          opens_in s Standard i c.args.word.now (place_in (get_or c.factors.first_opening (i - 1) 0)) order
-          (bottom_end s i c.args.word.now c.factors.place (get_or c.factors.open (i - 1) 0) (place_in (get_or c.factors.first_opening (i - 1) 0)) all (c.factors.invariant.first i index));
+          opens_in s Standard i c.args.word.now (entry_place (get_or c.factors.first_opening (i - 1) 0)) order
+          (bottom_end s i c.args.word.now c.factors.place (get_or c.factors.open (i - 1) 0) (entry_place (get_or c.factors.first_opening (i - 1) 0)) all (c.factors.invariant.first i index));
     }
 
 pub returns-in-Kashiwara : goal.returns-in-Kashiwara
@@ -52,10 +52,10 @@ returns-in-Kashiwara c =
     let all : length s.factors ≤ c.factors.place = omega (arith, ap (λ (t : SpaceType). length t.factors) c.space-space.ensures.value) in
     record {
       lower = λ i index.
-          opens_in s Kashiwara i c.args.word.now (place_in (get_or c.factors.first_opening (i - 1) 0)) order
-          (bottom_end s i c.args.word.now c.factors.place (get_or c.factors.open (i - 1) 0) (place_in (get_or c.factors.first_opening (i - 1) 0)) all (c.factors.invariant.first i index));
+          opens_in s Kashiwara i c.args.word.now (entry_place (get_or c.factors.first_opening (i - 1) 0)) order
+          (bottom_end s i c.args.word.now c.factors.place (get_or c.factors.open (i - 1) 0) (entry_place (get_or c.factors.first_opening (i - 1) 0)) all (c.factors.invariant.first i index));
       raise = λ i index.
-          closes_in s Kashiwara i c.args.word.now (place_in (get_or c.factors.last_closing (i - 1) 0)) order
-          (lower_end s i c.args.word.now c.factors.place (get_or c.factors.open (i - 1) 0) (place_in (get_or c.factors.last_closing (i - 1) 0))
+          closes_in s Kashiwara i c.args.word.now (entry_place (get_or c.factors.last_closing (i - 1) 0)) order
+          (lower_end s i c.args.word.now c.factors.place (get_or c.factors.open (i - 1) 0) (entry_place (get_or c.factors.last_closing (i - 1) 0))
           c.space-space.ensures.space index c.requires all (c.factors.invariant.last i index));
     }

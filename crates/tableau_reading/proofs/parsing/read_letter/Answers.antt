@@ -8,7 +8,7 @@ pub returns-then-is_letter-clause-value : goal.returns-then-is_letter-clause-val
 returns-then-is_letter-clause-value c =
     let value : letter_value c.args.token.now ≡ Some c.in_ok-value.value = sym c.letter_value.ensures ∙ c.in_ok-value.was in
     let same : to_z w8 (of_z w8 c.in_ok-value.value) ≡ c.in_ok-value.value = to_z-of_z w8 c.in_ok-value.value (search rules) in
-    rw (value, ← same) (letter_known c.args.cartan (to_z w8 (of_z w8 c.in_ok-value.value)) c.digit.result c.base_size-classical.ensures.classical c.digit.ensures.value c.digit.ensures.below)
+    rw (value, ← same) (letter_known c.args.cartan (to_z w8 (of_z w8 c.in_ok-value.value)) c.letter_digit.result c.base_size-classical.ensures.classical c.letter_digit.ensures.value c.letter_digit.ensures.below)
 
 pub returns-else-is_letter-clause-value : goal.returns-else-is_letter-clause-value
 returns-else-is_letter-clause-value c =

@@ -11,5 +11,5 @@ returns-then-token-from-clause-value c = wrong_size c.args.cartan c.args.half c.
 pub returns-then-is_of_half-clause-value : goal.returns-then-is_of_half-clause-value
 returns-then-is_of_half-clause-value c =
     let read : Some (vector_of c.in_ok-signs.signs) ≡ all_some sign_of c.args.token.now = ap (option_map vector_of) (sym c.in_ok-signs.was) ∙ c.signs_of.ensures.value in
-    ap Some c.digit.ensures.value
+    ap Some c.signs_digit.ensures.value
     ∙ half_read c.args.cartan c.args.half c.args.token.now (vector_of c.in_ok-signs.signs) _ read (omega arith) c.if-is_of_half.ensures

@@ -1,7 +1,7 @@
 use Rattle.std.proofs.Common.{◌≡◌, ◌∙◌, ap, sym, subst}
 use Rattle.crystal_cartan.specs.Types.{CartanType}
 use Rattle.canonical_graph.specs.Graphs.{FinishedType, target_rank}
-use Rattle.canonical_graph.specs.Tables.{KeepsTables, entry}
+use Rattle.canonical_graph.specs.Tables.{KeepsTables, entry_of}
 use Rattle.canonical_graph.proofs.Ranks.{target_below}
 use Rattle.canonical_graph.proofs.Rows.{entry_read, no_target, some_target}
 use Rattle.canonical_graph.proofs.finished.Finished.arrow_at.Goals as goal
@@ -11,7 +11,7 @@ returns-then-target-clause-target c =
     let kept : KeepsTables c.args.self.now c.self.inside.targets.lowered.items c.self.inside.targets.raised.items c.self.inside.targets.arrows =
     subst (λ (f : FinishedType). KeepsTables f c.self.inside.targets.lowered.items c.self.inside.targets.raised.items c.self.inside.targets.arrows)
     c.self.view_is c.self.invariant in
-    let read : c.entry-target.result ≡ entry (target_rank c.args.self.now c.args.rank c.args.arrow) =
+    let read : c.entry-target.result ≡ entry_of (target_rank c.args.self.now c.args.rank c.args.arrow) =
     entry_read c.args.self.now _ _ _ c.args.rank c.entry-target.result c.rank-indices.result c.args.arrow kept c.requires.rank c.requires.arrow
     (c.rank-indices.ensures.rank ∙ ap (λ (t : CartanType). t.rank) c.cartan.ensures.cartan ∙ ap (λ (f : FinishedType). f.space.cartan.rank) c.self.view_is)
     c.entry-target.ensures in
@@ -22,7 +22,7 @@ returns-else-target-clause-target c =
     let kept : KeepsTables c.args.self.now c.self.inside.targets.lowered.items c.self.inside.targets.raised.items c.self.inside.targets.arrows =
     subst (λ (f : FinishedType). KeepsTables f c.self.inside.targets.lowered.items c.self.inside.targets.raised.items c.self.inside.targets.arrows)
     c.self.view_is c.self.invariant in
-    let read : c.entry-target.result ≡ entry (target_rank c.args.self.now c.args.rank c.args.arrow) =
+    let read : c.entry-target.result ≡ entry_of (target_rank c.args.self.now c.args.rank c.args.arrow) =
     entry_read c.args.self.now _ _ _ c.args.rank c.entry-target.result c.rank-indices.result c.args.arrow kept c.requires.rank c.requires.arrow
     (c.rank-indices.ensures.rank ∙ ap (λ (t : CartanType). t.rank) c.cartan.ensures.cartan ∙ ap (λ (f : FinishedType). f.space.cartan.rank) c.self.view_is)
     c.entry-target.ensures in
@@ -33,7 +33,7 @@ returns-else-target-clause-below c =
     let kept : KeepsTables c.args.self.now c.self.inside.targets.lowered.items c.self.inside.targets.raised.items c.self.inside.targets.arrows =
     subst (λ (f : FinishedType). KeepsTables f c.self.inside.targets.lowered.items c.self.inside.targets.raised.items c.self.inside.targets.arrows)
     c.self.view_is c.self.invariant in
-    let read : c.entry-target.result ≡ entry (target_rank c.args.self.now c.args.rank c.args.arrow) =
+    let read : c.entry-target.result ≡ entry_of (target_rank c.args.self.now c.args.rank c.args.arrow) =
     entry_read c.args.self.now _ _ _ c.args.rank c.entry-target.result c.rank-indices.result c.args.arrow kept c.requires.rank c.requires.arrow
     (c.rank-indices.ensures.rank ∙ ap (λ (t : CartanType). t.rank) c.cartan.ensures.cartan ∙ ap (λ (f : FinishedType). f.space.cartan.rank) c.self.view_is)
     c.entry-target.ensures in

@@ -1,12 +1,12 @@
 use Rattle.std.proofs.Common.{◌≡◌, ◌+◌, ◌≤◌, ◌++◌, true, is_some}
 use Rattle.std.specs.List.{range_with_len, count_by}
 use Rattle.canonical_graph.specs.Graphs.{finished_graph, target_rank, lowering}
-use Rattle.canonical_graph.specs.Tables.{row}
+use Rattle.canonical_graph.specs.Tables.{rank_row}
 use Rattle.canonical_graph.proofs.lowering.Lowered.push_row.Given as goal
 
 abbrev pub invariant-indices : goal.invariant-indices
 invariant-indices l = record {
-  ranks : l.self.ranks.items ≡ l.fn.self.ranks.items ++ row (finished_graph l.steps l.codes) l.rank true l.place;
+  ranks : l.self.ranks.items ≡ l.fn.self.ranks.items ++ rank_row (finished_graph l.steps l.codes) l.rank true l.place;
   arrows : l.self.arrows ≡ l.fn.self.arrows + count_by (λ i. is_some (target_rank (finished_graph l.steps l.codes) l.rank (lowering i))) (range_with_len 1 l.place);
   few : l.self.arrows ≤ l.fn.self.arrows + l.place;
   last : l.place-end ≡ l.steps.cartan.rank;

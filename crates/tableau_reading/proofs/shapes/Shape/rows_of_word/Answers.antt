@@ -9,8 +9,8 @@ use Rattle.tableau_reading.proofs.VectorSpaces.{vector_size}
 use Rattle.tableau_reading.proofs.FilledRows.{AreLettersOf, letters_more, letters_of_more, word_listed, word_again}
 use Rattle.tableau_reading.proofs.shapes.Shape.rows_of_word.Goals as goal
 
-pub letter_of-requires : goal.letter_of-requires
-letter_of-requires c =
+pub letter_of_digit-requires : goal.letter_of_digit-requires
+letter_of_digit-requires c =
     let s = c.args.self.now in
     let lt : c.places.place < box_count c.args.self.now = omega (arith, c.places.invariant.last) in
     let below = subst (λ (space : SpaceType). c.digit_in.result < size_at space c.places.place) c.places.invariant.space c.digit_in.ensures.below in
@@ -20,12 +20,12 @@ letter_of-requires c =
 pub places-preserved : goal.places-preserved
 places-preserved c =
     let s = c.args.self.now in
-    let x = to_z w8 (of_z w8 c.letter_of.result.0) in
-    let plain : to_z w8 (of_z w8 c.letter_of.result.0) ≡ c.letter_of.result.0 = to_z-of_z w8 c.letter_of.result.0 (search rules) in
+    let x = to_z w8 (of_z w8 c.letter_of_digit.result.0) in
+    let plain : to_z w8 (of_z w8 c.letter_of_digit.result.0) ≡ c.letter_of_digit.result.0 = to_z-of_z w8 c.letter_of_digit.result.0 (search rules) in
     let few : c.places.place < length c.places.letters = omega (arith, c.places.invariant.size, c.boxes-place-end.ensures.few) in
-    let here : to_z w8 (of_z w8 c.letter_of.result.0) ≡ letter_at c.args.self.now.cartan (get_or c.args.word.now c.places.place 0) =
-    plain ∙ (c.letter_of.ensures.letter ∙ ap₂ (λ (t : CartanType) d. letter_at t d) c.places.invariant.cartan c.digit_in.ensures.digit) in
-    let good = subst (λ (t : CartanType). IsLetter t c.letter_of.result.0) c.places.invariant.cartan c.letter_of.ensures.of_type in
+    let here : to_z w8 (of_z w8 c.letter_of_digit.result.0) ≡ letter_at c.args.self.now.cartan (get_or c.args.word.now c.places.place 0) =
+    plain ∙ (c.letter_of_digit.ensures.value ∙ ap₂ (λ (t : CartanType) d. letter_at t d) c.places.invariant.cartan c.digit_in.ensures.digit) in
+    let good = subst (λ (t : CartanType). IsLetter t c.letter_of_digit.result.0) c.places.invariant.cartan c.letter_of_digit.ensures.letter in
     record {
       read = letters_of_more s.cartan c.places.place c.args.word.now c.places.letters x few here c.places.invariant.read;
       letters = letters_more s.cartan c.places.place c.places.letters x few (subst (IsLetter c.args.self.now.cartan) (sym plain) good) c.places.invariant.letters;

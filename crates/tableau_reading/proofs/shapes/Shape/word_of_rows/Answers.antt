@@ -16,7 +16,7 @@ use Rattle.tableau_reading.proofs.shapes.Shape.word_of_rows.Goals as goal
 pub put-word-requires-clause-digit : goal.put-word-requires-clause-digit
 put-word-requires-clause-digit c =
     let lt : c.places.place < box_count c.args.self.now = omega (arith, c.places.invariant.last) in
-    let below = rw c.places.invariant.cartan at c.digit-digit.ensures.below in
+    let below = rw c.places.invariant.cartan at c.letter_digit-digit.ensures.below in
     rw (c.places.invariant.space, vector_size c.args.self.now c.places.place lt) below
 
 pub places-preserved : goal.places-preserved
@@ -24,10 +24,10 @@ places-preserved c =
     let s = c.args.self.now in
     let size = length_word (shape_space s) c.places.word c.places.invariant.word ∙ length-shape_space s in
     let cartan : c.cartan-cartan.result ≡ c.args.filling.now.shape.cartan = c.places.invariant.cartan ∙ sym (ap (λ (t : ShapeType). t.cartan) c.places.invariant.same) in
-    let value : c.digit-digit.result ≡ letter_digit c.cartan-cartan.result c.letter_at.result.0 = c.digit-digit.ensures.value in
+    let value : c.letter_digit-digit.result ≡ letter_digit c.cartan-cartan.result c.letter_at.result.0 = c.letter_digit-digit.ensures.value in
     record {
       written = written_more (λ (b : Box). letter_digit c.args.filling.now.shape.cartan (letter_in c.args.filling.now b.row b.column)) (boxes_read c.args.filling.now.shape)
-          c.places.place c.places.word c.put-word.result c.digit-digit.result (omega (arith, size, c.places.invariant.last))
+          c.places.place c.places.word c.put-word.result c.letter_digit-digit.result (omega (arith, size, c.places.invariant.last))
           (value ∙ ap₂ (λ (t : CartanType) x. letter_digit t x) cartan c.letter_at.ensures.letter) c.put-word.ensures.put c.places.invariant.written;
       word = subst (λ (space : SpaceType). IsWord space c.put-word.result) c.places.invariant.space c.put-word.ensures.word;
       space = c.places.invariant.space;

@@ -15,7 +15,7 @@ use tensor_words::{Space, Steps};
 /// Two marked words of a space, with its tables and the words that were met last on either side, so that all arrows of a
 /// pair cost one pass over each word. Contracts see the space, the two marks and the relabelling.
 #[derive(Drop)]
-pub(crate) struct Both {
+pub(crate) struct MarkedSpace {
     steps: Steps,
     left: LastWord,
     right: LastWord,
@@ -24,9 +24,9 @@ pub(crate) struct Both {
 }
 
 /// The codes that a pair of operators gives, `None` for zero.
-pub(crate) type Ends = (Option<u64>, Option<u64>);
+pub(crate) type PairEnds = (Option<u64>, Option<u64>);
 
-impl Model for Both {
+impl Model for MarkedSpace {
     ghost use Rattle.std.specs.Prelude.{◌≡◌, ◌<◌};
     ghost use Rattle.crystal_match.specs.Telling.{PointedType, IsPointed, pointed};
 
@@ -37,20 +37,20 @@ impl Model for Both {
     ghost invariant = { λ b. IsPointed (pointed b.steps b.marks.0 b.marks.1 b.relabel) × (b.left ≡ b.steps) × (b.right ≡ b.steps) };
 }
 
-impl Both {
+impl MarkedSpace {
     /// The marks of a space. Takes the memory of its tables.
     pub(crate) fn new(
         alloc: Global,
         space: &Space,
         marks: (u64, u64),
         relabel: Relabel,
-    ) -> Result<Both, AllocError>
+    ) -> Result<MarkedSpace, AllocError>
         requires first { marks.0 < size space.now }
         requires second { marks.1 < size space.now }
         requires relabel { relabel.cartan ≡ space.now.cartan }
         ensures { IfOk result (λ both. both ≡ pointed space.now marks.0 marks.1 relabel) }
     {
-        Ok(Both {
+        Ok(MarkedSpace {
             steps: Steps::new(alloc, *space)?,
             left: LastWord::new(*space),
             right: LastWord::new(*space),
@@ -77,7 +77,7 @@ impl Both {
     }
 
     /// What the operator of an arrow makes of the first code, and that of the relabelled arrow of the second.
-    pub(crate) fn ends(&mut self, pair: (u64, u64), arrow: Arrow) -> Ends
+    pub(crate) fn ends(&mut self, pair: (u64, u64), arrow: Arrow) -> PairEnds
         requires first { pair.0 < size self.old.space }
         requires second { pair.1 < size self.old.space }
         requires arrow { IsArrow self.old.space arrow }
@@ -91,7 +91,7 @@ impl Both {
     }
 
     /// Whether two ends tell the marks apart.
-    pub(crate) fn tells(&self, ends: Ends) -> bool
+    pub(crate) fn tells(&self, ends: PairEnds) -> bool
         ensures { IsTrue result ↔ AreEndsApart self.now ends.0 ends.1 }
     {
         match ends {
