@@ -15,9 +15,10 @@ give_up() {
   exit 70
 }
 
-# Prints a source that is newer than a file, if there is one. A folder is newer where something came into it or left it.
+# Prints a source that is newer than a file, if there is one, in place of the subshell that it is called in. A folder is
+# newer where something came into it or left it.
 newer_than() {
-  find "$top/crates.txt" "$top"/crates/*/{src,specs,proofs} -newer "$1" -print -quit 2>/dev/null
+  exec find "$top/crates.txt" "$top"/crates/*/{src,specs,proofs} -newer "$1" -print -quit 2>/dev/null
 }
 
 # Whether the program stands and is proved since the last change.
