@@ -13,7 +13,7 @@ runs=${1:-5}
 command -v rustc >/dev/null || { echo "rustc is not installed: nothing is timed"; exit 0; }
 mkdir -p bench/out
 rustc --edition 2021 -C opt-level=3 -o bench/out/yardstick bench/yardstick.rs || exit 1
-./crystal grow 1 < jobs/first.job > /dev/null || exit 1
+./crystal prove || exit 1
 python3 - "$runs" "$(eval "$(grep '^memory' crystal)"; echo "$memory")" <<'PY'
 import os, subprocess, sys
 from pathlib import Path

@@ -7,7 +7,7 @@ A small library in C, loaded before the C library, stands in for malloc and real
 N = 1, 2, .. until a run has no Nth call. A run must end with the status 6, with nothing written. A few blocks the program
 can do without, and then the run must end as the row says: where there is none for a thread, the caller does the thread's
 work; where there is none for as long a vector as was guessed, it asks for a shorter one. The program must be built
-(./crystal grow 1 < jobs/first.job builds it). This is no part of the gate. Where there is no C compiler nothing is tried.
+(./crystal prove builds it). This is no part of the gate. Where there is no C compiler nothing is tried.
 """
 import os
 import shutil

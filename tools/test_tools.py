@@ -55,8 +55,8 @@ def crystal(*words, job=""):
 
 
 def setUpModule():
-    """Has the program built, which later runs say nothing of."""
-    crystal("grow", "1")
+    """Has the program proved and built, which later runs say nothing of."""
+    crystal("prove")
 
 
 class Reading(unittest.TestCase):
@@ -142,7 +142,7 @@ class Script(unittest.TestCase):
     def test_no_word(self):
         ran = crystal()
         self.assertEqual((ran.returncode, ran.stdout), (1, "refused words 2\n"))
-        self.assertEqual(ran.stderr, "crystal: fewer than two words (fault 2)\n" + crystal("--help").stdout)
+        self.assertEqual(ran.stderr, crystal("--help").stdout + "crystal: fewer than two words (fault 2)\n")
 
     def test_refusals(self):
         job = "crystal-job 1\ntype A 2\nspace v v v\nstart 2 1 7\n"
@@ -152,7 +152,7 @@ class Script(unittest.TestCase):
             (crystal("grow", "1", job="crystal-job 1\n"), 2, "refused job line 2 fault 12", "a type, a shape or space, or a start is missing (fault 12)"),
             (crystal("grow", "1", job="x" * 1048577), 2, "refused job line 0 fault 14", "more than 1,048,576 bytes (fault 14)"),
         ]:
-            self.assertEqual((ran.returncode, ran.stdout, ran.stderr), (status, output + "\n", f"crystal: {said}\n"))
+            self.assertEqual((ran.returncode, ran.stdout, ran.stderr.split("\n")[0]), (status, output + "\n", f"crystal: {said}"))
 
     def test_every_fault_has_a_meaning(self):
         guide = (TOP / "docs" / "JOB.md").read_text()
