@@ -79,7 +79,7 @@ def read(lines: Iterable[bytes], progress: bool | None = None) -> Graph:
     section: list[str] = []
     for line in rest:
         if line.startswith(b"graph "):
-            _vertices(graph, rest, *map(int, line.split()[1:]), progress)
+            _vertices(graph, rest, line, progress)
         elif line.startswith(b"session "):
             section = []
             graph.replies.append(section)
@@ -103,14 +103,19 @@ def read(lines: Iterable[bytes], progress: bool | None = None) -> Graph:
     return graph
 
 
-def _vertices(graph: Graph, lines: Iterator[bytes], vertices: int, arrows: int, progress: bool | None) -> None:
-    """Reads the lines of the vertices. The index of an arrow is one digit, so its bytes are taken apart by place."""
+def _vertices(graph: Graph, lines: Iterator[bytes], head: bytes, progress: bool | None) -> None:
+    """Reads the lines of the vertices behind their head. The index of an arrow is one digit, so its bytes are taken apart
+    by place."""
+    numbers = head.split()[1:]
+    if len(numbers) != 2 or not head.endswith(b"\n"):
+        raise Interrupted("the answer was cut off")
+    vertices, arrows = map(int, numbers)
     tables = {48 + i: array("i", [NONE]) * vertices for i in range(1, graph.rank + 1)}
     words, ends, weight_ids, known = graph.words, graph.ends, graph.weight_of, {}
     count, rank, teller = 0, 0, _Teller(vertices, progress)
     for rank in range(vertices):
         parts = next(lines, b"").split(b" | ")
-        if len(parts) != 4:
+        if len(parts) != 4 or not parts[3].endswith(b"\n"):
             raise Interrupted("the answer was cut off")
         words += parts[1]
         ends.append(len(words))

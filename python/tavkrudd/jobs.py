@@ -5,7 +5,6 @@ import re
 from collections.abc import Iterable, Sequence
 from dataclasses import dataclass, field, replace
 from fractions import Fraction
-from numbers import Rational
 
 MOST_CELLS = 1_048_576
 DEFAULT_CELLS = 65_536
@@ -125,7 +124,8 @@ def _starts(start: str | Iterable | None) -> list[str]:
 
 def _row(value: Row) -> Coordinate:
     """A row of a shape: whole or half-whole."""
-    row = Fraction(value) if isinstance(value, (int, str, float, Rational)) else Fraction(str(value))
+    # Numbers of Sage are read by their texts.
+    row = Fraction(value) if isinstance(value, (int, str, float, Fraction)) else Fraction(str(value))
     if row.denominator > 2:
         raise ValueError(f"no row of a shape: {value}; rows are whole, or half-whole in the types B and D")
     return int(row) if row.denominator == 1 else row
@@ -136,6 +136,8 @@ def _shaped(job: Job, rows: list[Coordinate], start: str | Iterable | None) -> J
     further = () if start is None else tuple(_starts(start))
     while len(rows) > 1 and rows[-1] == 0:
         rows.pop()
+    if not rows:
+        raise ValueError("no shape: it has no row")
     if all(isinstance(row, int) and row >= 0 for row in rows):
         whole = tuple(int(row) for row in rows)
         return replace(job, shape=whole, factors=("v",) * sum(whole), starts=further)

@@ -19,7 +19,7 @@ def word(kind: str | Sequence, rank: int | None, letters: str | Iterable, factor
     >>> b = word("C", 3, "-3 1 2")
     >>> top, path = b.to_highest_weight()
     >>> str(top), b.weight()
-    ('1 1 2', (1, 1, -1))
+    ('2 1 1', (1, 1, -1))
     """
     text = word_text(letters)
     return Crystal(job_of(kind, rank, factors=factors or ["v"] * len(text.split()), start=text, order=order))(text)
