@@ -1,0 +1,67 @@
+"""Forty bad inputs, each with the exception that it raises and a part of what is told."""
+from tavkrudd import CrystalError, JobRefused, NotAnElement, TooSmall, WordsRefused, answer_of, census, crystal, crystals, match, word
+from tavkrudd.jobs import job_of
+
+
+def adjoint():
+    """The crystal of the shape 2 1 in A_2."""
+    return crystal("A", 2, shape=[2, 1])
+
+
+BAD = [
+    (lambda: crystal("E", 6, shape=[1]), JobRefused, r"line 2: no such kind of type, or a rank out of range \(fault 6\): type E 6"),
+    (lambda: crystal("A", 9, shape=[1]), JobRefused, "rank out of range"),
+    (lambda: crystal("B", 1, shape=[1]), JobRefused, "rank out of range"),
+    (lambda: crystal("D", 2, shape=[1]), JobRefused, "rank out of range"),
+    (lambda: crystal("A", 0, shape=[1]), JobRefused, "rank out of range"),
+    (lambda: crystal("A", 2, shape=[1, 2]), JobRefused, r"line 3: no such shape \(fault 7\): shape 1 2"),
+    (lambda: crystal("A", 2, shape=[1, 1, 1, 1]), JobRefused, "no such shape"),
+    (lambda: crystal("C", 2, shape=[1, 1, 1]), JobRefused, "no such shape"),
+    (lambda: crystal("A", 2, shape=[41]), JobRefused, "no such shape"),
+    (lambda: crystal("A", 2, shape=[]), ValueError, "no shape: it has no row"),
+    (lambda: crystal("A", 2, shape=[1.5, 0.5]), ValueError, "half-whole rows"),
+    (lambda: crystal("B", 2, shape=[1.5]), ValueError, "all 2 of them"),
+    (lambda: crystal("B", 2, shape=[1.5, 1]), ValueError, "half-whole rows"),
+    (lambda: crystal("B", 2, shape=[1, -1]), ValueError, "only the last of 2 rows may be negative, in type D"),
+    (lambda: crystal("D", 4, shape=[1, -1]), ValueError, "only the last of 4 rows"),
+    (lambda: crystal("B", 2, shape=[0.3]), ValueError, "no row of a shape: 0.3"),
+    (lambda: crystal("B", 2, shape=[0.5, 1.5]), ValueError, "rows fall"),
+    (lambda: crystal("A", 2, factors="s", start="+++"), JobRefused, r"line 3: no such space, or no such order \(fault 8\): space s"),
+    (lambda: crystal("B", 2, factors="s+", start="++"), JobRefused, "no such space"),
+    (lambda: crystal("D", 4, factors="s", start="++++"), JobRefused, "no such space"),
+    (lambda: crystal("A", 2, factors="v " * 41, start="1 " * 41), JobRefused, "no such space"),
+    (lambda: crystal("C", 4, factors="v " * 22, start="1 " * 22), JobRefused, "no such space"),
+    (lambda: crystal("A", 2, factors="v v v", start="2 1 7"), JobRefused, r"line 4: no word of the space \(fault 9\): start 2 1 7"),
+    (lambda: crystal("A", 2, factors="v v v", start="2 1"), JobRefused, "no word of the space"),
+    (lambda: crystal("C", 2, factors="v", start="0"), JobRefused, "no word of the space"),
+    (lambda: crystal("D", 4, factors="s+", start="+++-"), JobRefused, "no word of the space"),
+    (lambda: crystal("A", 2, shape=[1], cells=0), JobRefused, "`cells` out of range"),
+    (lambda: crystal("A", 2, shape=[1], cells=1_048_577), JobRefused, "`cells` out of range"),
+    (lambda: crystal("A", 2, shape=[2, 1], cells=7), TooSmall, "more than 7 elements: give more cells, at most 1,048,576"),
+    (lambda: crystal("A", 2, shape=[1], order="other"), JobRefused, "no such order"),
+    (lambda: crystal("A", 2), TypeError, "either a shape or factors"),
+    (lambda: crystal("A", 2, factors="v"), TypeError, "start word"),
+    (lambda: crystal("A", 2, shape=[1], growers=17), WordsRefused, "GROWERS is not one to ten digits of value 1 to 16"),
+    (lambda: adjoint()("1 1 1"), NotAnElement, "no element of this crystal: 1 1 1; its 8 elements begin with 2 1 1, 2 1 2, 2 1 3"),
+    (lambda: adjoint()("x y z"), NotAnElement, "no element of this crystal: x y z"),
+    (lambda: adjoint()[8], IndexError, "no element with the rank 8: there are 8"),
+    (lambda: adjoint()[0].f(3), NotAnElement, "no index of type A_2: 3; the indices are 1 to 2"),
+    (lambda: adjoint().demazure([1, 0]), NotAnElement, "the indices are 1 to 2"),
+    (lambda: adjoint().demazure([]), NotAnElement, "at least one index"),
+    (lambda: adjoint().is_isomorphic(crystal("A", 3, shape=[1])), ValueError, "crystals of two types: A_2 and A_3"),
+    (lambda: crystal("B", 2, factors="s", start="++")[0].to_tableau(), NotAnElement, "shape with whole, positive rows"),
+    (lambda: match(job_of("A", 1, factors="v", start="1")), JobRefused, "under `match`, fewer than two starts"),
+    (lambda: match(job_of("A", 1, factors="v", start=["1", "2"]), "other"), WordsRefused, "neither just `same` nor just `star`"),
+    (lambda: census(1, [1, 1, 1]), WordsRefused, "not the rank of a type A and the rows of a shape"),
+    (lambda: census(8, [8, 4]), TooSmall, "more than 65,536"),
+    (lambda: crystals.Tableaux("Z", shape=[1]), ValueError, "no Cartan type: 'Z'"),
+    (lambda: crystals.TensorProduct(crystals.Letters("A1"), crystals.Letters("A2")), ValueError, "parts of one type"),
+    (lambda: crystals.TensorProduct(*[crystals.Letters("A2")] * 6), ValueError, "a product with 729 elements: name generators"),
+    (lambda: word("C", 3, "-4 1"), JobRefused, "no word of the space"),
+    (lambda: answer_of("crystal-job 1\r\n"), JobRefused, "a byte outside 32..126"),
+    (lambda: answer_of(""), JobRefused, "neither `crystal-job 1` nor `crystal-job 2`"),
+    (lambda: answer_of("crystal-job 1\ntype A 2\n"), JobRefused, "a type, a shape or space, or a start is missing"),
+    (lambda: answer_of("x" * 1_048_577), JobRefused, "more than 1,048,576 bytes"),
+    (lambda: answer_of("crystal-job 1\n", ("paint", "2")), WordsRefused, r"an unknown mode \(fault 3\): paint 2"),
+    (lambda: answer_of("crystal-job 1\n", ("grow", "1", "ends", "ends")), CrystalError, "a statistic that was named before"),
+]
