@@ -1,6 +1,5 @@
 #!/usr/bin/env python3
 """Tests of crystal_answer.py, and of the help and the refusals of ./crystal, which must be built."""
-import doctest
 import shutil
 import subprocess
 import sys
@@ -9,10 +8,8 @@ import unittest
 from fractions import Fraction
 from pathlib import Path
 
-import crystal_answer
-from crystal_answer import Demazure, Reflect, Tops, dot, read, sage, tikz
-
 TOP = Path(__file__).resolve().parents[1]
+TOOL = TOP / "tools" / "crystal_answer.py"
 WHOLE = """crystal B 2
 session 1
 absent
@@ -50,6 +47,11 @@ end
 """
 
 
+# The column 1 2 of C_2 below its top, and a string of 301 vertices.
+COLUMN = "crystal C 2\ngraph 2 1\n0 | 2 1 | 1 1 | 2:1\n1 | -2 1 | 1 -1 | -\nend\n"
+MANY = "crystal A 1\ngraph 301 300\n" + "".join(f"{k} | {k} | {k} 0 | {f'1:{k + 1}' if k < 300 else '-'}\n" for k in range(301)) + "end\n"
+
+
 def crystal(*words, job=""):
     return subprocess.run([TOP / "crystal", *words], input=job, capture_output=True, text=True)
 
@@ -59,75 +61,92 @@ def setUpModule():
     crystal("prove")
 
 
-class Reading(unittest.TestCase):
-    def test_every_part(self):
-        answer, half = read(WHOLE), Fraction(1, 2)
-        self.assertEqual((answer.kind, answer.rank, answer.is_full), ("B", 2, False))
-        self.assertEqual(answer.replies, [["absent", "1/2 -3/2"], []])
-        self.assertEqual([vertex.word for vertex in answer.vertices], [("++",), ("+-",), ("-+",), ("--",)])
-        self.assertEqual(answer.vertices[1].weight, (half, -half))
-        self.assertEqual(answer.arrows(), [(0, 2, 1), (1, 1, 2), (2, 2, 3)])
-        self.assertEqual(answer.reports["character"][(half, half)], 1)
-        self.assertEqual(answer.reports["strings"], {1: (3, 1), 2: (2, 1)})
-        self.assertEqual(answer.reports["ends"], 4)
-        self.assertEqual(answer.asks[0], Demazure([1, 2], [0, 1, 2]))
-        self.assertEqual(answer.asks[2], Tops([1], [(("++", "1"), (Fraction(3, 2), half))]))
-        self.assertEqual(answer.asks[3], Reflect(2, [1, 0, 3, 2]))
-        self.assertEqual(answer.depths(), {0: 0, 1: 1, 2: 2, 3: 3})
+class Answers(unittest.TestCase):
+    """The command reads an answer and draws its graph."""
 
-    def test_full(self):
-        answer = read("crystal A 2\nsession 1\nfull\nsession 2\nfull\nfull\nfull\nend\n")
-        self.assertEqual((answer.is_full, answer.replies, answer.vertices), (True, [["full"], ["full", "full"]], []))
+    def drawn(self, *words, answer=WHOLE):
+        return subprocess.run([sys.executable, TOOL, *words], input=answer, capture_output=True, text=True)
 
-    def test_no_answers(self):
-        for text in ["", "refused words 2\n", "crystal A 2\ngraph 1 0\n", WHOLE.replace("graph 4 3", "graph 5 3")]:
-            self.assertRaises(ValueError, read, text)
+    def told(self, *words, answer=WHOLE):
+        ran = self.drawn(*words, answer=answer)
+        self.assertEqual((ran.returncode, ran.stderr), (0, ""))
+        return ran.stdout
 
-
-class Drawing(unittest.TestCase):
     def test_dot(self):
-        text = dot(read(WHOLE))
-        for line in ['0 -> 1 [label="2", color=red, fontcolor=red];', '1 -> 2 [label="1", color=blue, fontcolor=blue];', "{ rank=min; 0 }"]:
+        text = self.told()
+        for line in ['0 -> 1 [label="2", color="red", fontcolor="red"];', '1 -> 2 [label="1", color="blue", fontcolor="blue"];', "{ rank=min; 0 }"]:
             self.assertIn(f"  {line}\n", text)
         self.assertEqual([f'{n} [label="{word}", fillcolor=gold]' in text for n, word in enumerate(["++", "+-", "-+", "--"])], [True, True, True, False])
-        self.assertEqual(dot(read(WHOLE), 2).count("fillcolor=gold"), 1)
+        self.assertEqual(self.told("--demazure", "2").count("fillcolor=gold"), 1)
+
+    def test_labels(self):
+        self.assertIn('0 [label="1/2 1/2"', self.told("--label", "weight"))
+        self.assertIn('3 [label="3"]', self.told("--label", "rank"))
+        self.assertIn('3 [label=""]', self.told("--label", "none"))
+        self.assertIn("<TD>1</TD>", self.told("--label", "tableau", answer=COLUMN))
+        self.assertIn(">2</tspan>", self.told("--svg", "--label", "tableau", answer=COLUMN))
 
     def test_tikz(self):
-        text = tikz(read("crystal A 1\ngraph 2 1\n0 | 1 -2 | 0 | 1:1\n1 | 2 -2 | 0 | -\nend\n"))
-        self.assertIn(r"\node[vertex] (v0) at (0, 0) {${1}\,\overline{2}$};", text)
-        self.assertIn(r"\draw[->, blue] (v0) -- node[auto, font=\scriptsize] {1} (v1);", text)
+        text = self.told("--tikz", answer=COLUMN)
+        self.assertIn(r"(v1) at (0, -1) {$\overline{2}\,{1}$};", text)
+        self.assertIn(r"\draw[->, red] (v0) -- node[auto, font=\scriptsize] {2} (v1);", text)
+        whole = self.told("--tikz", "--standalone", "--label", "tableau", answer=COLUMN)
+        self.assertTrue(whole.startswith(r"\documentclass") and r"\begin{ytableau}" in whole and whole.endswith("\\end{document}\n"))
+
+    def test_a_part_of_a_graph(self):
+        self.assertEqual(self.told("--depth", "1").count("->"), 1)
+        self.assertEqual(self.told("--indices", "2").count("->"), 2)
 
     def test_sage(self):
         made = []
 
         class DiGraph:
-            def __init__(self):
-                self.vertices, self.edges = [], []
+            def __init__(self, **options):
+                self.options = options
                 made.append(self)
 
-            def add_vertex(self, word):
-                self.vertices.append(word)
+            def add_vertices(self, words):
+                self.vertices = list(words)
 
-            def add_edge(self, *edge):
-                self.edges.append(edge)
+            def add_edges(self, edges):
+                self.edges = list(edges)
 
             def set_latex_options(self, **options):
-                self.options = options
+                self.latex = options
 
         module = types.ModuleType("sage.all")
-        module.DiGraph = DiGraph
+        module.DiGraph, module.QQ = DiGraph, Fraction
         sys.modules.update({"sage": types.ModuleType("sage"), "sage.all": module})
+        names = {}
         try:
-            exec(sage(read(WHOLE)), {})
+            exec(self.told("--sage"), names)
         finally:
             del sys.modules["sage"], sys.modules["sage.all"]
         self.assertEqual(made[0].vertices, ["++", "+-", "-+", "--"])
-        self.assertEqual(made[0].edges, [("++", "+-", 2), ("+-", "-+", 1), ("-+", "--", 2)])
-        self.assertEqual(made[0].options["color_by_label"], {1: "blue", 2: "red"})
+        self.assertEqual(sorted(made[0].edges), [("++", "+-", 2), ("+-", "-+", 1), ("-+", "--", 2)])
+        self.assertEqual(names["weights"]["+-"], (Fraction(1, 2), Fraction(-1, 2)))
+        self.assertEqual(made[0].latex["color_by_label"], {1: "blue", 2: "red"})
+
+    def test_page(self):
+        self.assertEqual(self.told("--page").count('"rank":'), 4)
+
+    def test_what_is_refused(self):
+        for words, answer, said in [
+            (["--demazure", "3"], WHOLE, "no Demazure subset 3: the job asks for 2"),
+            (["--indices", "3"], WHOLE, "no index of type B_2: 3; the indices are 1 to 2"),
+            ([], "crystal A 2\nsession 1\nfull\nfull\nend\n", "the graph is full: give the job more cells"),
+            ([], "refused job line 4 fault 9\n", "no answer, but: refused job line 4 fault 9"),
+            ([], "crystal A 2\ngraph 1 0\n", "the answer was cut off"),
+            ([], WHOLE.replace("graph 4 3", "graph 4 4"), "the answer has 3 arrows in place of 4"),
+            ([], "crystal C 4\nwide 36 50\nend\n", "no answer of `grow`: it has no graph"),
+            ([], MANY, "a picture of 301 vertices shows nothing: at most 300 are drawn; choose a depth"),
+        ]:
+            ran = self.drawn(*words, answer=answer)
+            self.assertEqual((ran.returncode, ran.stdout, ran.stderr), (1, "", f"crystal_answer: {said}\n"))
 
     @unittest.skipUnless(shutil.which("dot"), "Graphviz is not installed")
     def test_picture(self):
-        drawn = subprocess.run(["dot", "-Tsvg"], input=dot(read(WHOLE)), capture_output=True, text=True)
+        drawn = subprocess.run(["dot", "-Tsvg"], input=self.told(), capture_output=True, text=True)
         self.assertEqual((drawn.returncode, drawn.stderr), (0, ""))
         self.assertIn("</svg>", drawn.stdout)
 
@@ -164,7 +183,7 @@ class Script(unittest.TestCase):
     def test_an_answer_is_left_alone(self):
         ran = crystal("grow", "1", job=(TOP / "jobs" / "first.job").read_text())
         self.assertEqual((ran.returncode, ran.stderr), (0, ""))
-        self.assertEqual(len(read(ran.stdout).vertices), 8)
+        self.assertIn("graph 8 8\n", ran.stdout)
 
 
 class Documents(unittest.TestCase):
@@ -189,11 +208,6 @@ class Documents(unittest.TestCase):
             follows = blocks[blocks.index(job) + 1 :][:1]
             if follows and follows[0].startswith("crystal "):
                 self.assertEqual(ran.stdout, follows[0])
-
-
-def load_tests(_loader, tests, _pattern):
-    tests.addTests(doctest.DocTestSuite(crystal_answer))
-    return tests
 
 
 if __name__ == "__main__":

@@ -25,7 +25,7 @@ from .errors import (
 from .jobs import Job, job_of
 from .many import answer_of, crystals_of
 from .tableau import Tableau
-from .words import census, product_tops, reflections, word
+from .words import census, product_tops, reflections, wide, word
 
 __all__ = [
     "Character",
@@ -53,5 +53,6 @@ __all__ = [
     "match",
     "product_tops",
     "reflections",
+    "wide",
     "word",
 ]

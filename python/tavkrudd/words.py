@@ -7,7 +7,7 @@ from . import program
 from .crystal import Crystal
 from .element import Element
 from .errors import TooSmall
-from .jobs import cartan_type, job_of, word_text
+from .jobs import DEFAULT_CELLS, job_of, word_text
 from .tableau import Tableau
 
 MOST_TABLEAUX = 65_536
@@ -38,6 +38,16 @@ def census(rank: int, shape: Iterable[int]) -> list[Tableau]:
     return [Tableau.of_word(rows, line.split()) for line in lines[2:-1]]
 
 
+def wide(job: str, growers: int = 1) -> tuple[int, int]:
+    """How many words are reached, and how many f arrows there are, where a job's space is taken twice over and its first
+    start twice: the answer of the mode `wide` to a job's text. More than the job's cells is `TooSmall`."""
+    told = program.answer("wide", str(growers), job=job)[1].split()
+    if told[0] == "full":
+        cells = [line.split()[1] for line in job.splitlines() if line.split()[:1] == ["cells"]]
+        raise TooSmall(int(cells[0]) if cells else DEFAULT_CELLS)
+    return int(told[1]), int(told[2])
+
+
 def reflections(crystal: Crystal, index: int) -> list[Element]:
     """The crystal reflections of all elements at an index, by rank, as the program's ask tells them."""
     graph = crystal._grown(crystal.job.asking(f"reflect {crystal._indices((index,))[0]}"))
@@ -57,4 +67,4 @@ def product_tops(crystal: Crystal, shape: Iterable[int]) -> dict[str, tuple]:
     return {text: weight_of(weight) for text, weight in (line.split(" | ") for line in graph.asks[0][1])}
 
 
-__all__ = ["cartan_type", "census", "product_tops", "reflections", "word"]
+__all__ = ["census", "product_tops", "reflections", "wide", "word"]
