@@ -1,0 +1,12 @@
+pub mod Pairs
+pub mod Deciding
+pub mod Sums
+pub mod Moving
+pub mod CellSteps
+pub mod FirstClaims
+pub mod SecondClaims
+pub mod EdgeSteps
+pub mod Opening
+pub mod Splitting
+pub mod Joining
+pub mod Settling
