@@ -163,7 +163,7 @@ def of_missing(head):
 def of_key(head, key, *words):
     if key in ("order", "done") and head.version == "1":
         return f"{key} needs crystal-job 2 in the first line"
-    glued = re.fullmatch("([A-Za-z])([0-9]+)", "".join(words) if key == "type" else key[4:] if key[:4] == "type" else "")
+    glued = re.fullmatch("([A-Za-z])[_-]?([0-9]+)", "".join(words) if key == "type" else key[4:] if key[:4] == "type" else "")
     if glued:
         return f"write: type {glued[1].upper()} {glued[2]}"
     if key in FORMS:
@@ -195,6 +195,8 @@ def of_number(head, key, *words):
     bad = next((it for it in words[first:last] if not re.fullmatch("[0-9]{1,9}", it)), None)
     if bad is None:
         return None
+    if key in ("shape", "demazure", "tops") and re.fullmatch("[0-9 ,()[\\]]+", " ".join(words)):
+        return f"write: {key} {' '.join(re.findall('[0-9]+', ' '.join(words)))}"
     rows = [row_of(word) for word in words]
     if key in ("shape", "tops") and None not in rows and any(row.denominator > 1 or row < 0 for row in rows):
         return of_weight(head, rows) if key == "shape" else "the rows of tops are whole"
@@ -242,7 +244,7 @@ def of_rows(head, key, *words):
     rows = [int(word) for word in words]
     tallest = head.rank + (head.kind == "A")
     if any(a < b for a, b in zip(rows, rows[1:])):
-        return f"rows fall: {key} {' '.join(map(str, sorted(filter(None, rows), reverse=True)))}"
+        return f"rows fall: {' '.join(filter(None, [key, *map(str, sorted(filter(None, rows), reverse=True))]))}"
     if 0 in rows:
         return "a row is 0: leave it out" if any(rows) else "a row is 0"
     if len(rows) > tallest:
@@ -339,7 +341,7 @@ def of_census(rank="", *rows):
         return f"{bad} is no row, which has one to nine digits" if bad else "the rows of a shape are missing"
     head = Head([])
     head.kind, head.rank = "A", int(rank)
-    return of_rows(head, "rows", *rows)
+    return of_rows(head, "", *rows)
 
 
 def of_full(words, lines):

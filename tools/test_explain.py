@@ -46,6 +46,9 @@ CAUSES = [
     (4, after("cells 8", "cells 9"), "there is a line cells before it: it stands at most once"),
     (4, after("session", "start 1 1 1"), "it stands behind shape or space, before the first session and the first ask"),
     (4, after("find 1 1 1"), "it is a command: it stands in a session, behind a line session and before the first ask"),
+    (3, "crystal-job 1\ntype A_2\n", "write: type A 2"),
+    (5, "crystal-job 1\ntype A 2\nshape [2, 1]\n", "write: shape 2 1"),
+    (5, after("demazure 1,2"), "write: demazure 1 2"),
     (5, after("cells x"), "x is no number: one has one to nine digits"),
     (5, after("reflect -1"), "-1 is no number: one has one to nine digits and no sign"),
     (6, "crystal-job 1\ntype B 1\n", "the ranks of type B are 2 to 8"),
@@ -92,7 +95,7 @@ CAUSES_IN_WORDS = [
     (4, ["grow", "17"], "17 is no number of growers, which is 1 to 16; usage: ./crystal grow GROWERS [STATISTIC..] < JOB"),
     (5, ["grow", "1", "charactr"], "is character meant?; usage: ./crystal grow GROWERS [STATISTIC..] < JOB"),
     (7, ["sample", "1", "x"], "usage: ./crystal sample GROWERS NUMBER"),
-    (9, ["census", "2", "1", "2"], "rows fall: rows 2 1; usage: ./crystal census RANK N1 N2 .."),
+    (9, ["census", "2", "1", "2"], "rows fall: 2 1; usage: ./crystal census RANK N1 N2 .."),
     (10, ["match", "both"], "usage: ./crystal match same|star < JOB"),
 ]
 # Types, the rows of a highest weight that no shape has, and the size of its crystal by Weyl's dimension formula.
