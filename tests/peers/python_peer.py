@@ -8,7 +8,7 @@ fifth of them have few cells. The model keeps sets and dictionaries, computes op
 order, and writes the whole answer but for the replies of the sessions: these must be the same bytes, by 1 to 16
 growers in turn. The replies must be those of some legal history (history_peer.py). Last, for one job in each type, the
 component in Kashiwara's order must be that of the reversed factors and words in the standard order. The program must be
-built (./crystal prove builds it).
+built (./crystal grow 1 < jobs/first.job builds it).
 """
 import random
 import subprocess

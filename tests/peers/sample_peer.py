@@ -8,7 +8,7 @@ Usage: tests/peers/sample_peer.py [NUMBER..]         (0 to 3, and 4294967293, wh
 For each number the model makes the text of the sample. `grow` must take this text as a job, with the graph of the model,
 and its replies must be those of some legal history (history_peer.py); `sample` must tell the counts of this graph. The
 graph in type C is too large for the model: there the counts alone are compared, with those of docs/JOB.md. The program
-must be built (./crystal prove builds it).
+must be built (./crystal grow 1 < jobs/first.job builds it).
 The program prints no sample's text, so that text is judged in the tests of job_text: the lines of `sums` are their table,
 the number, the bytes of its text, and their checksum, the value of the bytes as digits in base 31 modulo 2^32. The word
 `text` prints the text itself.

@@ -13,13 +13,14 @@ use Rattle.session_desk.specs.Texts.{IsPrintable}
 use Rattle.crystal_streams.specs.Lines.{ended}
 use Rattle.answer_text.specs.Texts.{head_line, sessions_text, graph_head, graph_part, full_line, statistic_text, end_line, words_refusal, job_refusal}
 use Rattle.answer_text.specs.Asks.{demazure_text, tops_text, reflection_text}
-use Rattle.answer_text.specs.Modes.{census_line, tableaux_text, same_line, differs_line, sample_line, sessions_line, commands_line}
+use Rattle.answer_text.specs.Modes.{census_line, tableaux_text, same_line, differs_line, wide_line, sample_line, sessions_line, commands_line}
 use Rattle.answer_text.specs.declared.answers.AskAnswer.{AskAnswer}
 use Rattle.answer_text.specs.declared.answers.AskAnswer.TheVariants.{Demazure, Tops, Reflection}
 use Rattle.answer_text.specs.declared.answers.Report.{Report}
+use Rattle.answer_text.specs.declared.answers.Counts.{Counts}
 use Rattle.answer_text.specs.declared.answers.Whole.{Whole}
 use Rattle.answer_text.specs.declared.answers.Answer.{Answer}
-use Rattle.answer_text.specs.declared.answers.Answer.TheVariants.{WordsRefused, JobRefused, Crystal, Sample, Tableaux, Comparison}
+use Rattle.answer_text.specs.declared.answers.Answer.TheVariants.{WordsRefused, JobRefused, Crystal, Sample, Tableaux, Comparison, Wide}
 
 -- ---- answers to asks, and reports
 
@@ -118,6 +119,15 @@ verdict_line (Some (Same pairs)) = same_line (length pairs)
 verdict_line (Some (Differs walk)) = differs_line walk
 verdict_line None = full_line
 
+-- the text of a growth of wide words, by its middle line
+abbrev pub wide_text : CartanType → List ℕ → List ℕ
+wide_text t line = ended (head_line t) ++ ended line ++ ended end_line
+
+-- the line of the counts, or `full`
+abbrev pub counts_line : Option Counts → List ℕ
+counts_line (Some counts) = wide_line counts.vertices counts.arrows
+counts_line None = full_line
+
 -- the text of an answer
 abbrev pub answer_bytes : Answer → List ℕ
 answer_bytes (WordsRefused fault) = words_refusal fault
@@ -126,11 +136,16 @@ answer_bytes (Crystal space told graph) = crystal_text space told.items graph
 answer_bytes (Sample number cartan sessions commands graph) = sample_answer number cartan sessions commands (sizes_line graph)
 answer_bytes (Tableaux shape codes) = tableaux_answer shape codes
 answer_bytes (Comparison cartan verdict) = match_text cartan (verdict_line verdict)
+answer_bytes (Wide cartan counts) = wide_text cartan (counts_line counts)
 
 -- a verdict can be printed: there are fewer than 2^63 pairs
 abbrev pub IsPrintableVerdict : Verdict → Type 0
 IsPrintableVerdict (Same pairs) = length pairs < 2 ^ 63
 IsPrintableVerdict (Differs walk) = Unit {0}
+
+-- counts can be printed: there are fewer than 2^63 arrows
+abbrev pub IsPrintableCounts : Counts → Type 0
+IsPrintableCounts counts = counts.arrows < 2 ^ 63
 
 -- an answer can be printed
 abbrev pub IsPrintableAnswer : Answer → Type 0
@@ -141,3 +156,4 @@ IsPrintableAnswer (Crystal space told graph) =
 IsPrintableAnswer (Sample number cartan sessions commands graph) = Unit {0}
 IsPrintableAnswer (Tableaux shape codes) = IfSome codes (All (λ code. code < size (shape_space shape)))
 IsPrintableAnswer (Comparison cartan verdict) = IfSome verdict IsPrintableVerdict
+IsPrintableAnswer (Wide cartan counts) = IfSome counts IsPrintableCounts

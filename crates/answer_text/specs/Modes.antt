@@ -1,4 +1,4 @@
--- The lines of the modes `census`, `match` and `sample`, but for those that they share with a grown graph. Each line ends
+-- The lines of the modes `census`, `match`, `wide` and `sample`, but for those that they share with a grown graph. Each line ends
 -- with byte 10.
 use Rattle.std.specs.Prelude.{ℕ, if◌then◌else◌, List, ◌∷◌, ◌++◌, length, codes, decimal}
 use Rattle.std.specs.List.{flat_map}
@@ -38,6 +38,10 @@ arrow_tokens walk = flat_map (λ a. 32 ∷ arrow_token a) walk
 -- the line where they differ: the first walk that tells the marked elements apart
 unfoldable pub differs_line : List Arrow → List ℕ
 differs_line walk = codes "differs" ++ arrow_tokens walk
+
+-- the line of a growth of wide words: how many are reached, and how many f arrows at them are not zero
+unfoldable pub wide_line : ℕ → ℕ → List ℕ
+wide_line vertices arrows = codes "wide " ++ decimal vertices ++ 32 ∷ decimal arrows
 
 -- the lines of a sample job: its number, and how many sessions and commands it has
 unfoldable pub sample_line : ℕ → List ℕ

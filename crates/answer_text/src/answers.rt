@@ -45,6 +45,13 @@ pub struct Whole {
     pub asks: Vec<AskAnswer>,
 }
 
+/// How many wide words are reached, and how many f arrows at them are not zero.
+#[derive(Clone, Copy, Debug, PartialEq, Eq)]
+pub struct Counts {
+    pub vertices: u32,
+    pub arrows: u64,
+}
+
 /// An answer of the program.
 #[derive(Debug, Drop)]
 pub enum Answer {
@@ -82,5 +89,10 @@ pub enum Answer {
     Comparison {
         cartan: Cartan,
         verdict: Option<Verdict>,
+    },
+    /// What a growth of wide words of this type came to; no counts where there are more words than cells.
+    Wide {
+        cartan: Cartan,
+        counts: Option<Counts>,
     },
 }

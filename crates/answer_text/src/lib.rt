@@ -7,8 +7,8 @@
 //! **Where to read.** Every function that prints has one clause, `Prints` of specs/Prints.antt: what the sink took and
 //! what is left on the page are together what was on the page before and the printed text. `heads` has the first and the
 //! last line and the refusals, `sessions` the replies, `graphs` the graph and the reports of statistics, `asks` the
-//! answers to asks, `censuses` the tableaux of a census, `matches` what a comparison came to, `samples` a sample job;
-//! `lines` makes short lines.
+//! answers to asks, `censuses` the tableaux of a census, `matches` what a comparison came to, `counts` what a growth of wide
+//! words came to, `samples` a sample job; `lines` makes short lines.
 //!
 //! **Stands on** canonical_graph and session_desk for the text of a vertex and of a reply, tableau_reading for words and
 //! weights, crystal_match for verdicts, crystal_streams for lines and sinks.
@@ -17,6 +17,7 @@
 mod answers;
 mod asks;
 mod censuses;
+mod counts;
 mod graphs;
 mod heads;
 mod lines;
@@ -26,6 +27,6 @@ mod printing;
 mod samples;
 mod sessions;
 
-pub use answers::{Answer, AskAnswer, Report, Whole};
+pub use answers::{Answer, AskAnswer, Counts, Report, Whole};
 pub use pages::Page;
 pub use printing::print_answer;

@@ -2,11 +2,13 @@
 ghost use Rattle.std.specs.Prelude.{◌≡◌, [], IfSome};
 ghost use Rattle.crystal_streams.specs.Writes.{Writes};
 ghost use Rattle.answer_text.specs.Prints.{Prints};
-ghost use Rattle.answer_text.specs.Answers.{ArePrintable, IsPrintableWhole, IsPrintableVerdict, IsPrintableAnswer, crystal_text, crystal_part, whole_part, match_text, verdict_line, answer_bytes};
+ghost use Rattle.answer_text.specs.Answers.{ArePrintable, IsPrintableWhole, IsPrintableVerdict, IsPrintableCounts, IsPrintableAnswer};
+ghost use Rattle.answer_text.specs.Answers.{crystal_text, crystal_part, whole_part, match_text, verdict_line, wide_text, counts_line, answer_bytes};
 
-use crate::answers::{Answer, Whole};
+use crate::answers::{Answer, Counts, Whole};
 use crate::asks::print_asks;
 use crate::censuses::print_census;
+use crate::counts::print_counts;
 use crate::graphs::{print_graph, print_reports};
 use crate::heads::{print_end, print_full, print_head, print_job_refusal, print_words_refusal};
 use crate::matches::print_verdict;
@@ -53,6 +55,7 @@ fn print_parts<W: Sink>(sink: &mut W, page: &mut Page, answer: &Answer) -> Resul
         } => print_sample(sink, page, *number, *cartan, *sessions, *commands, graph),
         Answer::Tableaux { shape, codes } => print_census(sink, page, shape, codes),
         Answer::Comparison { cartan, verdict } => print_comparison(sink, page, *cartan, verdict),
+        Answer::Wide { cartan, counts } => print_wide(sink, page, *cartan, counts),
     }
 }
 
@@ -119,5 +122,21 @@ fn print_comparison<W: Sink>(
 {
     print_head(sink, page, cartan)?;
     print_verdict(sink, page, verdict)?;
+    print_end(sink, page)
+}
+
+/// Prints a growth of wide words: its type, the line of its counts, and the end.
+fn print_wide<W: Sink>(
+    sink: &mut W,
+    page: &mut Page,
+    cartan: Cartan,
+    counts: &Option<Counts>,
+) -> Result<(), WriteFault>
+    requires { IfSome counts.now IsPrintableCounts }
+    ensures { Prints (W.held sink.old) (W.held sink.new) (W.faults sink.old) (W.faults sink.new) page.old page.new
+        (wide_text cartan (counts_line counts.now)) result }
+{
+    print_head(sink, page, cartan)?;
+    print_counts(sink, page, counts)?;
     print_end(sink, page)
 }

@@ -7,7 +7,7 @@ use Rattle.std.proofs.lemmas.List.Quantifiers.{position-Some}
 use Rattle.std.proofs.lemmas.Slice.Eq.{bytes_eq-Decides}
 use Rattle.std.proofs.lemmas.List.Folds.{list_any-append}
 use Rattle.command_words.specs.Number.{is_between, is_numeral, number_in}
-use Rattle.command_words.specs.Judge.{FitsNames, IsAnswer, Text, has_word, is_dashed, census_in, census_of, judge_census, judge_grow, judge_match, judge_mode, judge_plain, judge_sample, judge_words, grow_with, place_named, place_or_fault, places_named, row_numbers, sample_with, with_place}
+use Rattle.command_words.specs.Judge.{FitsNames, IsAnswer, Text, has_word, is_dashed, census_in, census_of, judge_census, judge_grow, judge_match, judge_mode, judge_plain, judge_sample, judge_wide, judge_words, grow_with, place_named, place_or_fault, places_named, row_numbers, sample_with, with_place}
 use Rattle.command_words.specs.declared.fault.WordsFault.{WordsFault}
 use Rattle.command_words.specs.declared.settings.Settings.{Settings}
 use Rattle.command_words.specs.declared.settings.Settings.TheVariants.{Match}
@@ -141,16 +141,23 @@ match_fits count word [] = go (bytes_eq word (codes "same")) (bytes_eq word (cod
     go false false = tt
 match_fits count word (other ∷ more) = tt
 
+wide_fits : (count : ℕ) (growers : Option ℕ) (more : List Text) → IsRange growers → IfOk (judge_wide growers more) (FitsNames count)
+wide_fits count None more range = tt
+wide_fits count (Some n) [] range = range n refl
+wide_fits count (Some n) (word ∷ more) range = tt
+
 mode_fits : (names : List Text) (mode second : Text) (more : List Text) → IfOk (judge_mode names mode second more) (FitsNames (length names))
-mode_fits names mode second more = go (bytes_eq mode (codes "grow")) (bytes_eq mode (codes "sample")) (bytes_eq mode (codes "census")) (bytes_eq mode (codes "match"))
+mode_fits names mode second more = go (bytes_eq mode (codes "grow")) (bytes_eq mode (codes "sample")) (bytes_eq mode (codes "census")) (bytes_eq mode (codes "match")) (bytes_eq mode (codes "wide"))
   where
-    go : (grows samples lists compares : Bool) → IfOk (cond grows (judge_grow names (number_in 10 1 16 second) more) (cond samples (judge_sample (number_in 10 1 16 second) more)
-        (cond lists (judge_census second more) (cond compares (judge_match second more) (Err UnknownMode))))) (FitsNames (length names))
-    go true samples lists compares = grow_fits names (number_in 10 1 16 second) more (in_range 10 1 16 second)
-    go false true lists compares = sample_fits (length names) (number_in 10 1 16 second) more (in_range 10 1 16 second)
-    go false false true compares = census_fits (length names) (number_in 9 1 8 second) (row_numbers more) (in_range 9 1 8 second)
-    go false false false true = match_fits (length names) second more
-    go false false false false = tt
+    go : (grows samples lists compares doubles : Bool) → IfOk (cond grows (judge_grow names (number_in 10 1 16 second) more) (cond samples (judge_sample (number_in 10 1 16 second) more)
+        (cond lists (judge_census second more) (cond compares (judge_match second more)
+        (cond doubles (judge_wide (number_in 10 1 16 second) more) (Err UnknownMode)))))) (FitsNames (length names))
+    go true samples lists compares doubles = grow_fits names (number_in 10 1 16 second) more (in_range 10 1 16 second)
+    go false true lists compares doubles = sample_fits (length names) (number_in 10 1 16 second) more (in_range 10 1 16 second)
+    go false false true compares doubles = census_fits (length names) (number_in 9 1 8 second) (row_numbers more) (in_range 9 1 8 second)
+    go false false false true doubles = match_fits (length names) second more
+    go false false false false true = wide_fits (length names) (number_in 10 1 16 second) more (in_range 10 1 16 second)
+    go false false false false false = tt
 
 judged_fits : (words names : List Text) → IfOk (judge_words words names) (FitsNames (length names))
 judged_fits words names = go (list_any is_dashed words) words

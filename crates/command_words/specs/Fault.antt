@@ -4,7 +4,7 @@ use Rattle.command_words.specs.declared.fault.WordsFault.{WordsFault}
 use Rattle.command_words.specs.declared.fault.WordsFault.TheVariants.{Dashed, Missing, UnknownMode}
 use Rattle.command_words.specs.declared.fault.WordsFault.TheVariants.{BadGrowers, UnknownStatistic}
 use Rattle.command_words.specs.declared.fault.WordsFault.TheVariants.{RepeatedStatistic, BadSample}
-use Rattle.command_words.specs.declared.fault.WordsFault.TheVariants.{BadCensus, BadMatch, NoMemory}
+use Rattle.command_words.specs.declared.fault.WordsFault.TheVariants.{BadCensus, BadMatch, WideExtra, NoMemory}
 
 -- the number that the program prints for the fault
 abbrev pub fault_number : WordsFault → Option ℕ
@@ -17,4 +17,5 @@ fault_number RepeatedStatistic = Some 6
 fault_number BadSample = Some 7
 fault_number BadCensus = Some 9
 fault_number BadMatch = Some 10
+fault_number WideExtra = Some 11
 fault_number NoMemory = None

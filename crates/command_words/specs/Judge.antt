@@ -8,10 +8,10 @@ use Rattle.command_words.specs.declared.fault.WordsFault.{WordsFault}
 use Rattle.command_words.specs.declared.fault.WordsFault.TheVariants.{Dashed, Missing, UnknownMode}
 use Rattle.command_words.specs.declared.fault.WordsFault.TheVariants.{BadGrowers, UnknownStatistic}
 use Rattle.command_words.specs.declared.fault.WordsFault.TheVariants.{RepeatedStatistic, BadSample}
-use Rattle.command_words.specs.declared.fault.WordsFault.TheVariants.{BadCensus, BadMatch, NoMemory}
+use Rattle.command_words.specs.declared.fault.WordsFault.TheVariants.{BadCensus, BadMatch, WideExtra, NoMemory}
 use Rattle.command_words.specs.declared.settings.Relabelling.TheVariants.{Same, Star}
 use Rattle.command_words.specs.declared.settings.Settings.{Settings}
-use Rattle.command_words.specs.declared.settings.Settings.TheVariants.{Grow, Sample, Census, Match}
+use Rattle.command_words.specs.declared.settings.Settings.TheVariants.{Grow, Sample, Census, Match, Wide}
 use Rattle.crystal_cartan.specs.declared.types.Kind.TheVariants.{A}
 use Rattle.tensor_words.specs.declared.spaces.Order.TheVariants.{Standard}
 use Rattle.tableau_reading.specs.Shapes.{ShapeType, IsShape, shape_of}
@@ -115,6 +115,12 @@ judge_match word [] =
     else Err BadMatch
 judge_match word (other ∷ more) = Err BadMatch
 
+-- `wide` by the number of growers, if it is one, and no further word
+abbrev pub judge_wide : Option ℕ → List Text → Result Settings WordsFault
+judge_wide None more = Err BadGrowers
+judge_wide (Some growers) [] = Ok (Wide growers)
+judge_wide (Some growers) (word ∷ more) = Err WideExtra
+
 -- the mode, the word after it and the further words
 abbrev pub judge_mode : List Text → Text → Text → List Text → Result Settings WordsFault
 judge_mode names mode second more =
@@ -122,6 +128,7 @@ judge_mode names mode second more =
     else if bytes_eq mode (codes "sample") then judge_sample (number_in 10 1 16 second) more
     else if bytes_eq mode (codes "census") then judge_census second more
     else if bytes_eq mode (codes "match") then judge_match second more
+    else if bytes_eq mode (codes "wide") then judge_wide (number_in 10 1 16 second) more
     else Err UnknownMode
 
 -- a mode, the word after it and further words, of which the first two may be missing
@@ -152,3 +159,4 @@ FitsNames count (Grow growers places) = (1 ≤ growers) × (growers ≤ 16)
 FitsNames count (Sample growers number) = (1 ≤ growers) × (growers ≤ 16)
 FitsNames count (Census shape) = IsShape shape × (shape.cartan.kind ≡ A) × (shape.order ≡ Standard)
 FitsNames count (Match relabelling) = Unit {0}
+FitsNames count (Wide growers) = (1 ≤ growers) × (growers ≤ 16)

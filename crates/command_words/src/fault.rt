@@ -12,7 +12,7 @@ pub enum WordsFault {
     Dashed,
     #[error("fewer than two words")]
     Missing,
-    #[error("the mode is none of `grow`, `sample`, `census` and `match`")]
+    #[error("the mode is none of `grow`, `sample`, `census`, `match` and `wide`")]
     UnknownMode,
     #[error("the number of growers is not one to ten digits of value 1 to 16")]
     BadGrowers,
@@ -26,12 +26,14 @@ pub enum WordsFault {
     BadCensus,
     #[error("`match` wants one word, `same` or `star`")]
     BadMatch,
+    #[error("`wide` wants no word but the number of growers")]
+    WideExtra,
     #[error("out of memory")]
     NoMemory,
 }
 
 impl WordsFault {
-    /// The number that the program prints for the fault: 1 to 7, 9 or 10; want of memory has none.
+    /// The number that the program prints for the fault: 1 to 7 or 9 to 11; want of memory has none.
     pub fn number(&self) -> Option<u8>
         ensures { result ≡ fault_number self.now }
     {
@@ -45,6 +47,7 @@ impl WordsFault {
             WordsFault::BadSample => Some(7),
             WordsFault::BadCensus => Some(9),
             WordsFault::BadMatch => Some(10),
+            WordsFault::WideExtra => Some(11),
             WordsFault::NoMemory => None,
         }
     }

@@ -6,7 +6,7 @@ ghost use Rattle.std.specs.List.{list_any};
 ghost use Rattle.clap.specs.Words.{all_of, first_of, found_of, rows_of};
 ghost use Rattle.command_words.specs.Number.{number_in};
 ghost use Rattle.command_words.specs.Judge.{FitsNames, IsAnswer, is_dashed, judge_grow, judge_line, judge_match};
-ghost use Rattle.command_words.specs.Judge.{judge_mode, judge_sample, judge_words};
+ghost use Rattle.command_words.specs.Judge.{judge_mode, judge_sample, judge_wide, judge_words};
 
 use crate::arguments::matches_in;
 use crate::census::census_settings;
@@ -95,6 +95,20 @@ fn match_settings(word: &str, more: &[&str]) -> Result<Settings, WordsFault>
     }
 }
 
+/// The settings of `wide`.
+fn wide_settings(growers: &str, more: &[&str]) -> Result<Settings, WordsFault>
+    ensures { result ≡ judge_wide (number_in 10 1 16 growers.now)
+        (map (λ text. text.now) more.now) }
+{
+    let Some(growers) = growers_in(growers) else {
+        return Err(WordsFault::BadGrowers);
+    };
+    let [] = more else {
+        return Err(WordsFault::WideExtra);
+    };
+    Ok(Settings::Wide { growers })
+}
+
 /// The settings of a mode, by the words after it.
 fn mode_settings(
     alloc: Global,
@@ -111,6 +125,7 @@ fn mode_settings(
         "sample" => sample_settings(second, more),
         "census" => census_settings(alloc, second, more),
         "match" => match_settings(second, more),
+        "wide" => wide_settings(second, more),
         _ => Err(WordsFault::UnknownMode),
     }
 }

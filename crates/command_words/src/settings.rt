@@ -74,4 +74,6 @@ pub enum Settings {
     Census { shape: Shape },
     /// Compare the first two starts of the job that is read, and their components.
     Match { relabelling: Relabelling },
+    /// Grow the words of two words of the space of the job that is read, one after the other.
+    Wide { growers: u32 },
 }

@@ -25,10 +25,11 @@ use Rattle.crystal_shell.specs.Inputs.{judged_input}
 use Rattle.graph_runs.specs.Runs.{IsHistory}
 use Rattle.graph_runs.specs.declared.run.Held.{Held}
 use Rattle.crystal_shell.proofs.Histories.{IsGraph, ended_full, ended_graph}
-use Rattle.crystal_shell.specs.Answers.{CallsForMatch, CallsForCensus, CallsForGraph, IsRunOf, CallsForSample, call_census, call_grow, call_match, call_refused, call_sample, census_limit, count_full, count_listed, grow_full, grow_refused, grow_whole, marked, match_few, match_full, match_refused, match_told, sample_full, sample_whole}
+use Rattle.crystal_shell.specs.Answers.{CallsForMatch, CallsForCensus, CallsForGraph, IsRunOf, CallsForSample, call_census, call_grow, call_match, call_refused, call_sample, call_wide, census_limit, count_full, count_listed, grow_full, grow_refused, grow_whole, marked, match_few, match_full, match_refused, match_told, sample_full, sample_whole}
 use Rattle.crystal_shell.specs.Laws.{AnswersAreDetermined}
 use Rattle.crystal_shell.specs.declared.inputs.Input.{Input}
 use Rattle.crystal_shell.specs.declared.outcomes.Status.{Status}
+use Rattle.crystal_shell.proofs.WideCases.{widens_one}
 use Rattle.crystal_shell.proofs.Verdicts.{list_unique, not_both, verdict_one}
 
 -- what is determined of two answers
@@ -136,3 +137,5 @@ answers_are_determined reporters input heard s t f g k l x y (call_census shape 
     let one = counts_one shape status status' text text' counts counts' in (one.0, λ same. one.1)
 answers_are_determined reporters input heard s t f g k l x y (call_match r status text compares) (call_match r' status' text' compares') =
     let one = compares_one r (judged_input input) status status' text text' compares compares' in (one.0, λ same. one.1)
+answers_are_determined reporters input heard s t f g k l x y (call_wide growers status text widens) (call_wide growers' status' text' widens') =
+    let one = widens_one (judged_input input) status status' text text' widens widens' in (one.0, λ same. one.1)

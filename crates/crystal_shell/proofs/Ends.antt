@@ -10,10 +10,11 @@ use Rattle.answer_text.specs.Texts.{words_refusal}
 use Rattle.crystal_shell.specs.Statistics.{Reporter, names_of}
 use Rattle.crystal_shell.specs.Heard.{asks_for_job, heard_in}
 use Rattle.crystal_shell.specs.Inputs.{IsInput, judged_input}
-use Rattle.crystal_shell.specs.Answers.{CallsFor, CallsForMatch, CallsForCensus, CallsForGraph, CallsForSample, call_census, call_grow, call_match, call_refused, call_sample, status_number}
+use Rattle.crystal_shell.specs.Answers.{CallsFor, CallsForMatch, CallsForCensus, CallsForGraph, CallsForSample, call_census, call_grow, call_match, call_refused, call_sample, call_wide, status_number}
+use Rattle.crystal_shell.specs.Wide.{CallsForWide}
 use Rattle.crystal_shell.specs.Runs.{Called, HasRead, IsRun, IsWritten}
 use Rattle.crystal_shell.specs.declared.hearing.Heard.{Heard}
-use Rattle.crystal_shell.specs.declared.hearing.Heard.TheVariants.{Census, Grow, Match, Refused, Sample}
+use Rattle.crystal_shell.specs.declared.hearing.Heard.TheVariants.{Census, Grow, Match, Refused, Sample, Wide}
 use Rattle.crystal_shell.specs.declared.inputs.Input.{Input}
 use Rattle.crystal_shell.specs.declared.outcomes.Outcome.{Outcome}
 use Rattle.crystal_shell.specs.declared.outcomes.Status.{Status}
@@ -62,6 +63,13 @@ module _ (reporters : List Reporter) (words : List (List ℕ)) (left : Option (L
       → ((xs : List ℕ) × IsInput left xs × (input ≡ judged_input xs)) → CallsForMatch r input s x → Called reporters words left s f k x
   called_compared r input s f k x this front none (xs, had, judged) compares =
       let base : CallsFor reporters xs (Match r) s [] None x = call_match r s x (subst (λ (i : Input). CallsForMatch r i s x) judged compares) in
+      let answer : CallsFor reporters xs heard s f k x = rw (this, front, none) base in
+      called s f k x xs had answer
+
+  pub called_widened : (growers : ℕ) (input : Input) (s : Status) (f : List Event) (k : Option Held) (x : List ℕ) → heard ≡ Wide growers → f ≡ [] → k ≡ None
+      → ((xs : List ℕ) × IsInput left xs × (input ≡ judged_input xs)) → CallsForWide input s x → Called reporters words left s f k x
+  called_widened growers input s f k x this front none (xs, had, judged) widens =
+      let base : CallsFor reporters xs (Wide growers) s [] None x = call_wide growers s x (subst (λ (i : Input). CallsForWide i s x) judged widens) in
       let answer : CallsFor reporters xs heard s f k x = rw (this, front, none) base in
       called s f k x xs had answer
 

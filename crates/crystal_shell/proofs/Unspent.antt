@@ -5,7 +5,7 @@ use Rattle.graph_history.specs.declared.event.Event.{Event}
 use Rattle.graph_history.proofs.Components.{spent_outnumbers}
 use Rattle.crystal_shell.specs.Statistics.{Reporter}
 use Rattle.crystal_shell.specs.Inputs.{judged_input}
-use Rattle.crystal_shell.specs.Answers.{CallsForGraph, CallsForSample, call_census, call_grow, call_match, call_sample, grow_whole, sample_whole}
+use Rattle.crystal_shell.specs.Answers.{CallsForGraph, CallsForSample, call_census, call_grow, call_match, call_sample, call_wide, grow_whole, sample_whole}
 use Rattle.crystal_shell.specs.Laws.{AnsweredIsUnspent}
 use Rattle.graph_runs.specs.declared.run.Held.{Held}
 use Rattle.crystal_shell.proofs.Histories.{ended_graph}
@@ -28,3 +28,4 @@ answered_is_unspent reporters input heard front held text n x (call_sample growe
     samples_unspent number front' held' text' n x samples there
 answered_is_unspent reporters input heard front held text n x (call_census shape status text' counts) (k, below, is) = omega (arith, below)
 answered_is_unspent reporters input heard front held text n x (call_match r status text' compares) (k, below, is) = omega (arith, below)
+answered_is_unspent reporters input heard front held text n x (call_wide growers status text' widens) (k, below, is) = omega (arith, below)

@@ -22,6 +22,7 @@ use Rattle.answer_text.specs.Answers.{asks_text, whole_text, full_text, sample_a
 use Rattle.answer_text.specs.declared.answers.AskAnswer.{AskAnswer}
 use Rattle.crystal_shell.specs.Statistics.{Reporter, statistics_text}
 use Rattle.crystal_shell.specs.Inputs.{judged_input}
+use Rattle.crystal_shell.specs.Wide.{CallsForWide}
 use Rattle.graph_runs.specs.Runs.{EndsRun, Holds, IsHistory}
 use Rattle.graph_runs.specs.declared.run.Held.{Held}
 use Rattle.crystal_shell.specs.declared.hearing.Heard.{Heard}
@@ -120,3 +121,5 @@ pub data CallsFor (reporters : List Reporter) (input : List ℕ) : Heard → Sta
       → CallsFor reporters input (heard.Census shape) status [] None text
   call_match : (r : Relabelling) (status : Status) (text : List ℕ) → CallsForMatch r (judged_input input) status text
       → CallsFor reporters input (heard.Match r) status [] None text
+  call_wide : (growers : ℕ) (status : Status) (text : List ℕ) → CallsForWide (judged_input input) status text
+      → CallsFor reporters input (heard.Wide growers) status [] None text

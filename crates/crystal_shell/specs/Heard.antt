@@ -9,7 +9,7 @@ use Rattle.command_words.specs.declared.fault.WordsFault.{WordsFault}
 use Rattle.command_words.specs.declared.settings.Settings.{Settings}
 use Rattle.command_words.specs.declared.settings.Settings.TheVariants as setting
 use Rattle.crystal_shell.specs.declared.hearing.Heard.{Heard}
-use Rattle.crystal_shell.specs.declared.hearing.Heard.TheVariants.{Refused, Grow, Sample, Census, Match}
+use Rattle.crystal_shell.specs.declared.hearing.Heard.TheVariants.{Refused, Grow, Sample, Census, Match, Wide}
 
 -- the number of a fault of the words; a judgement is never want of memory, which has none
 abbrev pub number_or_zero : Option ℕ → ℕ
@@ -23,6 +23,7 @@ heard_of (Ok (setting.Grow growers places)) = Grow growers places
 heard_of (Ok (setting.Sample growers number)) = Sample growers number
 heard_of (Ok (setting.Census shape)) = Census shape
 heard_of (Ok (setting.Match relabelling)) = Match relabelling
+heard_of (Ok (setting.Wide growers)) = Wide growers
 
 -- what the command words ask for, where the statistics have these names
 abbrev pub heard_in : List (List ℕ) → List (List ℕ) → Heard
@@ -35,6 +36,7 @@ asks_for_job (Grow growers places) = true
 asks_for_job (Sample growers number) = false
 asks_for_job (Census shape) = false
 asks_for_job (Match relabelling) = true
+asks_for_job (Wide growers) = true
 
 -- the places are different ones of so many statistics
 pub record AreChosen (count : ℕ) (places : List ℕ) : Type 0 where
@@ -48,3 +50,4 @@ CanBeHeard count (Grow growers places) = (1 ≤ growers) × (growers ≤ 16) × 
 CanBeHeard count (Sample growers number) = (1 ≤ growers) × (growers ≤ 16)
 CanBeHeard count (Census shape) = (shape.cartan.kind ≡ A) × (shape.order ≡ Standard)
 CanBeHeard count (Match relabelling) = Unit {0}
+CanBeHeard count (Wide growers) = (1 ≤ growers) × (growers ≤ 16)

@@ -24,6 +24,8 @@ pub(crate) enum Heard {
     Census { shape: Shape },
     /// A job's first two starts compared.
     Match { relabelling: Relabelling },
+    /// A job's first start twice, grown as a word of two words by so many growers.
+    Wide { growers: u32 },
 }
 
 /// What the command words ask for.
@@ -55,6 +57,7 @@ fn heard_of(settings: Settings) -> Heard
         Settings::Sample { growers, number } => Heard::Sample { growers, number },
         Settings::Census { shape } => Heard::Census { shape },
         Settings::Match { relabelling } => Heard::Match { relabelling },
+        Settings::Wide { growers } => Heard::Wide { growers },
     }
 }
 

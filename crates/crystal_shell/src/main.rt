@@ -4,12 +4,12 @@
 //! words and the input call for, under the status that they call for; where a stream fails or memory is short its
 //! status says so. `main` hands it the words, the standard streams and the three statistics.
 //!
-//! Its modules follow a run: `hearing` has the command words, `inputs` the job, `growing`, `samples`, `counting` and
-//! `matching` a mode each, `statistics` what is chosen, fed and reported, `refusals` the answers to refused words and
+//! Its modules follow a run: `hearing` has the command words, `inputs` the job, `growing`, `samples`, `counting`,
+//! `matching` and `widening` a mode each, `statistics` what is chosen, fed and reported, `refusals` the answers to refused words and
 //! jobs, `outcomes` what a run ends with. `laws` says what words and input determine of an answer.
 //!
-//! **Stands on** command_words and job_text for what is read, graph_runs for the run of a job, tableau_census and
-//! crystal_match for the other modes, crystal_characters and ask_answers for statistics and asks, and answer_text, which
+//! **Stands on** command_words and job_text for what is read, graph_runs for the run of a job, tableau_census,
+//! crystal_match and wide_growth for the other modes, crystal_characters and ask_answers for statistics and asks, and answer_text, which
 //! alone prints.
 #![tactic(auto)]
 
@@ -26,6 +26,7 @@ mod samples;
 mod statistics;
 #[cfg(test)]
 mod tests;
+mod widening;
 
 use crystal_characters::{CharacterTally, EndTally, Statistic, StringTally};
 use crystal_streams::{InputAdapter, OpenGate, OutputAdapter, Sink, Source};

@@ -16,6 +16,7 @@ use crate::matching::matched;
 use crate::outcomes::{Answered, NoAnswer, Outcome};
 use crate::refusals::refused_words;
 use crate::samples::sample;
+use crate::widening::widen;
 use answer_text::{Page, print_answer};
 use crystal_characters::Statistic;
 use crystal_streams::{Gate, Sink, Source, WriteFault};
@@ -129,6 +130,10 @@ fn answer<T: Threads + Sync, R: Source, G: Gate>(
         Heard::Match { relabelling } => {
             let input = read_input(alloc, source)?;
             Ok(matched(alloc, input, relabelling)?)
+        }
+        Heard::Wide { growers } => {
+            let input = read_input(alloc, source)?;
+            Ok(widen(rt, alloc, input, growers, gate)?)
         }
     }
 }

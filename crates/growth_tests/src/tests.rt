@@ -6,3 +6,4 @@ mod growths;
 mod meetings;
 mod parcels;
 mod runs;
+mod wide_growths;

@@ -3,7 +3,18 @@ use Rattle.std.specs.Prelude.{ℕ, ◌<◌, ◌≤◌, ◌≡◌, ◌≢◌, Lis
 use mathlib.Core.Option.{some}
 use lib.ListN.{get_elem?}
 use Rattle.shared_seats.specs.declared.view.View.{View}
-use Rattle.shared_seats.specs.Seats.{calls, IsSeated, went, cut_left, cut_right, joined}
+use Rattle.shared_seats.specs.Seats.{calls, IsSeated, first_view, went, cut_left, cut_right, joined}
+
+-- the first seat of a table knows the empty history
+abbrev pub SeatsOpen : (W E D : Type 0) → Type 0
+SeatsOpen W E D = (whole : ℕ) (by : E → ℕ) (key : W) (own : D) → 0 < whole → IsSeated {D = D} whole by key (first_view whole own key ∷ []) []
+
+-- who has the whole stake is the only live seat, and has seen the whole history
+abbrev pub WholeIsAlone : (W E D : Type 0) → Type 0
+WholeIsAlone W E D =
+    (whole : ℕ) (by : E → ℕ) (key : W) (views : List (View W E D)) (h : List E) → IsSeated whole by key views h →
+    (id : ℕ) (v : View W E D) → get_elem? views id ≡ some v → 0 < v.stake → v.stake ≡ whole →
+    ((j : ℕ) (u : View W E D) → get_elem? views j ≡ some u → 0 < u.stake → u ≡ v) × (h ≡ v.front)
 
 -- a live seat adds events of its number at the end of the history
 abbrev pub StepsKeep : (W E D : Type 0) → Type 0

@@ -6,4 +6,6 @@ mod edges;
 mod histories;
 mod rules;
 mod tight_seats;
+mod wide_cells;
+mod wide_worlds;
 mod worlds;

@@ -16,7 +16,7 @@ use Rattle.graph_history.specs.declared.event.Act.TheVariants.{Added, Met, Misse
 use Rattle.graph_history.specs.declared.event.Event.{Event}
 use Rattle.graph_history.specs.History.{Vertex, State, empty_state, after, state_from, state_of, HasVertex, IsOrigin, unfinished}
 use Rattle.graph_history.specs.Laws.{Stays, IsReachedIn}
-use Rattle.graph_history.proofs.Histories.{around}
+use Rattle.graph_history.proofs.Histories.{around, state_from-append}
 use Rattle.graph_history.proofs.VertexLists.{keys, length-keys, key_at, has_key, no_key, AreApart, distinct_keys, vertex_in}
 use Rattle.graph_history.proofs.SoundStates.{IsSound, sound_empty, sound_added, sound_drew, reached_stays, reached_more, target_stays, root_walk}
 use Rattle.graph_history.proofs.Components.{closed_walk}
@@ -250,3 +250,25 @@ wide_closed_fits w h legal closed roots = (many, enough)
             let at = closed_walk (flat w) (state_of h) S closed r.path r.root q (roots r.root r.rooted) r.arrows r.leads in
             let place = vertex_in vs at.0 q at.1 in
             list_any-from_Contains nat_eq_equiv q (keys code vs) (has_key code vs place.0 (record { cell = at.0; code = q }) place.1)
+
+-- each act leaves the vertices that there are
+more_vertices : (s : State) (a : Act) → length s.vertices ≤ length (after s a).vertices
+more_vertices s (Added c x o) = omega (arith, length-append s.vertices (record { cell = c; code = x } ∷ []))
+more_vertices s (Met c x) = omega arith
+more_vertices s (Missed x) = omega arith
+more_vertices s (Spent x) = omega arith
+more_vertices s (Drew c a t) = omega arith
+more_vertices s (Saw c a t) = omega arith
+more_vertices s (Blank c a) = omega arith
+more_vertices s Owed = omega arith
+more_vertices s (Settled paid) = omega arith
+more_vertices s (Tally n) = omega arith
+
+vertices_from : (s : State) (g : List Event) → length s.vertices ≤ length (state_from s g).vertices
+vertices_from s [] = omega arith
+vertices_from s (e ∷ g) = let here = more_vertices s e.act in let rest = vertices_from (after s e.act) g in omega arith
+
+pub vertices_stay_many : (f g : List Event) → length (state_of f).vertices ≤ length (state_of (f ++ g)).vertices
+vertices_stay_many f g =
+    let all = ap (λ (s : State). length s.vertices) (state_from-append empty_state f g) in
+    let more = vertices_from (state_of f) g in omega arith

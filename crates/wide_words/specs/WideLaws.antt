@@ -74,6 +74,10 @@ WideSpentOutnumbers =
 abbrev pub WideVerticesFit : Type 0
 WideVerticesFit = (w : WideWorldType) (h : List Event) → IsWideLegal w h → length (state_of h).vertices ≤ (flat w).cells
 
+-- where there are as many vertices as the capacity, there are as many in every longer history, and more than that stay more
+abbrev pub WideFullStays : Type 0
+WideFullStays = (f g : List Event) → length (state_of f).vertices ≤ length (state_of (f ++ g)).vertices
+
 -- in a closed graph that has all roots the reached words outnumber the capacity exactly where the vertices do
 abbrev pub WideClosedFits : Type 0
 WideClosedFits =

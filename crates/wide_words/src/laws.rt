@@ -1,5 +1,5 @@
 //! Laws of wide words and of legal wide histories. Each call does nothing: its contract is the theorem.
-ghost use Rattle.wide_words.specs.WideLaws.{PairsCorrespond, PairsAscend, PairsAreWords, WideStatesAreSimple, VerticesArePairs, WideVerticesAreReached, WideClosedIsReached, WideClosedIsComponents, WideSpentOutnumbers, WideVerticesFit, WideClosedFits, WideClosedIsCounted, CountsAreUnique};
+ghost use Rattle.wide_words.specs.WideLaws.{PairsCorrespond, PairsAscend, PairsAreWords, WideStatesAreSimple, VerticesArePairs, WideVerticesAreReached, WideClosedIsReached, WideClosedIsComponents, WideSpentOutnumbers, WideVerticesFit, WideFullStays, WideClosedFits, WideClosedIsCounted, CountsAreUnique};
 
 /// The pairs of words and the codes of the whole space correspond one to one.
 pub fn pairs_correspond()
@@ -50,6 +50,11 @@ pub fn wide_spent_outnumbers()
 /// There are no more vertices than cells, which are 32 more than the capacity.
 pub fn wide_vertices_fit()
     ensures { WideVerticesFit }
+{}
+
+/// The number of vertices never falls, so a graph that has as many as its capacity stays so.
+pub fn wide_full_stays()
+    ensures { WideFullStays }
 {}
 
 /// In a closed graph that has all roots the reached words outnumber the capacity exactly where the vertices do.

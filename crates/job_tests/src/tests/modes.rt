@@ -41,11 +41,12 @@ fn refused_words(rt: HostRuntime) {
         ("paint 2", 3),
         ("help 2", 3),
         (" 2", 3),
-        ("wide 0 x", 3),
         ("grow 0", 4),
         ("grow 17", 4),
         ("grow 00000000002", 4),
         ("grow +2", 4),
+        ("wide 0", 4),
+        ("wide 17 x", 4),
         ("grow 2 lengths", 5),
         ("grow 2 lengths ends ends", 5),
         ("grow 2 ends ends", 6),
@@ -63,6 +64,8 @@ fn refused_words(rt: HostRuntime) {
         ("census 2 0000000001", 9),
         ("match other", 10),
         ("match same star", 10),
+        ("wide 1 x", 11),
+        ("wide 16 ", 11),
         ("grow 2", 0),
         ("grow 16 ends strings", 0),
     ];
@@ -107,5 +110,9 @@ fn accepted_later_modes(rt: HostRuntime) -> Result<(), Fail> {
         };
         assert_eq!(rt; relabelling, wanted);
     }
+    let Settings::Wide { growers } = settings_of(rt.alloc(), "wide 0000000016")? else {
+        panic!(rt; "another mode");
+    };
+    assert_eq!(rt; growers, 16);
     Ok(())
 }

@@ -15,7 +15,7 @@ use tensor_words::{Factor, Space, next_code};
 
 /// The first cell of a code's path.
 #[tactic(auto, unfolding(graph_rule::specs::Layout::home))]
-fn home(code: u64, cells: u32) -> u32
+pub(super) fn home(code: u64, cells: u32) -> u32
     requires { 0 < cells }
     ensures value { result ≡ home cells code }
     ensures below { result < cells }

@@ -2,7 +2,7 @@ use Rattle.std.proofs.Common.{map, string_bytes, refl, ap}
 use Rattle.answer_text.specs.Answers.{answer_bytes}
 use Rattle.crystal_shell.specs.Heard.{asks_for_job}
 use Rattle.crystal_shell.proofs.Words.{heard_through}
-use Rattle.crystal_shell.proofs.Ends.{called_compared, called_counted, called_grown, called_refused, called_sampled, read_unasked}
+use Rattle.crystal_shell.proofs.Ends.{called_compared, called_counted, called_grown, called_refused, called_sampled, called_widened, read_unasked}
 use Rattle.crystal_shell.proofs.running.answer.Goals as goal
 
 pub returns-in-Refused-clause-called : goal.returns-in-Refused-clause-called
@@ -58,3 +58,11 @@ returns-in_ok-matched-in-Match-clause-called g c =
     let a = c.in_ok-matched-in-Match in
     called_compared _ (map string_bytes c.args.words.now) (g.R.Source.left c.args.source.now) c.in_ok-heard.heard is c.in-Match.relabelling c.in_ok-input-in-Match.input
     a.field-0.status a.field-0.front a.field-0.held (answer_bytes a.field-0.answer) c.in-Match.is a.ensures.unkept.0 a.ensures.unkept.1 c.in_ok-input-in-Match.ensures.judged a.ensures.compares
+
+pub returns-in_ok-widen-in-Wide-clause-called : goal.returns-in_ok-widen-in-Wide-clause-called
+returns-in_ok-widen-in-Wide-clause-called g c =
+    let is = heard_through (λ b. (goal.Statistic-dyn g (b.vtable, b.value)).named b.value) (λ b. (goal.Statistic-dyn g (b.vtable, b.value)).reported b.value)
+    c.as_slice.result.now c.args.stats.now.items (map string_bytes c.args.words.now) c.in_ok-heard.heard c.as_slice.ensures.value c.in_ok-heard.ensures.heard in
+    let a = c.in_ok-widen-in-Wide in
+    called_widened _ (map string_bytes c.args.words.now) (g.R.Source.left c.args.source.now) c.in_ok-heard.heard is c.in-Wide.growers c.in_ok-input-in-Wide.input
+    a.field-0.status a.field-0.front a.field-0.held (answer_bytes a.field-0.answer) c.in-Wide.is a.ensures.unkept.0 a.ensures.unkept.1 c.in_ok-input-in-Wide.ensures.judged a.ensures.widens
