@@ -29,6 +29,7 @@ WORD_FAULTS = {
     7: "not just one number behind the growers of `sample`",
     9: "not the rank of a type A and the rows of a shape behind `census`",
     10: "neither just `same` nor just `star` behind `match`",
+    11: "a word behind the growers of `wide`",
 }
 
 
