@@ -1,5 +1,5 @@
 use Rattle.wide_graph.proofs.Looking.{probing_looked, origin_looked}
-use Rattle.wide_graph.proofs.Trying.{beaten_looked, beaten_passed, beaten_last}
+use Rattle.wide_graph.proofs.Trying.{finished_met, beaten_looked, beaten_passed, beaten_last}
 use Rattle.wide_graph.proofs.entries.finish_half.Goals as goal
 
 pub room_second-word-requires-clause-searched : goal.room_second-word-requires-clause-searched
@@ -21,3 +21,8 @@ pub returns-clause-told : goal.returns-clause-told
 returns-clause-told c =
     beaten_passed c.args.seat.now.view c.claim_second-word.new.seat.view c.args.cell c.claim_second-word.result c.args.code c.args.origin c.claim_second-word.ensures.view
     c.args.last c.requires.probing.code c.claim_second-word.ensures.word c.if-word-eq0.false c.if-word-code.false c.if-last.false c.requires.idle
+
+pub returns-then-word-code-clause-told : goal.returns-then-word-code-clause-told
+returns-then-word-code-clause-told c =
+    finished_met c.args.seat.now.view c.claim_second-word.new.seat.view c.args.cell c.claim_second-word.result c.args.code c.args.origin c.claim_second-word.ensures.view
+    c.if-word-eq0.false c.if-word-code.true c.requires.idle
