@@ -68,11 +68,7 @@ pub(super) fn add_root(graph: &WideGraph, seat: &mut WideSeat, place: usize) -> 
 }
 
 /// Looks for the root at this place, `None` past the last.
-pub(super) fn find_root(
-    graph: &WideGraph,
-    seat: &mut WideSeat,
-    place: usize,
-) -> Option<Option<u32>>
+pub(super) fn find_root(graph: &WideGraph, seat: &mut WideSeat, place: usize) -> Option<Option<u32>>
     requires belongs { Belongs seat.old graph.now }
     requires idle { seat.old.view.own.pending ≡ None }
     ensures belongs { Belongs seat.new graph.now }
