@@ -39,10 +39,10 @@ refusal_widens input line fault s a is status told =
 
 -- ---- the doubled job
 
-world_of : WideSpaceType → ℕ → List WideCode → WideWorldType
+abbrev world_of : WideSpaceType → ℕ → List WideCode → WideWorldType
 world_of space capacity roots = record { space = space; capacity = capacity; roots = roots }
 
-code_of : ℕ → WideCode
+abbrev code_of : ℕ → WideCode
 code_of x = record { high = x; low = x }
 
 -- the doubled job, by other names
@@ -70,6 +70,12 @@ pub counts_fit : (w : WorldType) (vertices arrows : ℕ) → w.space.cartan.rank
 counts_fit w vertices arrows low small reached =
     let few = sum_by-le (arrows_at w.space) 8 reached.codes (λ k d below. omega (arith, arrows_few w.space (get_or reached.codes k d), low)) in
     omega (arith, few, small, reached.many, reached.drawn)
+
+pub counts_printable : (job : Job) (w : WideWorldType) → IsJob job → w ≡ doubled job → (vertices arrows : ℕ) → vertices < 2 ^ 32
+    → IsGrownTo w (grown.Closed vertices arrows) → arrows < 2 ^ 63
+counts_printable job w is same vertices arrows small found =
+    let own : IsGrownTo (doubled job) (grown.Closed vertices arrows) = subst (λ (v : WideWorldType). IsGrownTo v (grown.Closed vertices arrows)) same found in
+    counts_fit (counted (doubled job)) vertices arrows is.world.space.cartan.high small own.0
 
 -- ---- the answers
 

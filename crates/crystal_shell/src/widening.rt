@@ -1,5 +1,5 @@
 //! The mode `wide`: the words of two words of a job's space, one after the other, grown from its first start twice.
-ghost use Rattle.std.specs.Prelude.{◌≡◌, ◌≤◌, [], None, IfOk};
+ghost use Rattle.std.specs.Prelude.{◌≡◌, ◌≤◌, ◌<◌, ◌^◌, [], None, IfOk};
 ghost use Rattle.job_text.specs.Jobs.{IsJob};
 ghost use Rattle.answer_text.specs.Answers.{IsPrintableAnswer, answer_bytes};
 ghost use Rattle.crystal_shell.specs.Inputs.{IsLawful};
@@ -61,13 +61,16 @@ fn widen_job<T: Threads + Sync, G: Gate>(
         low: start,
     }];
     match wide_grow(rt, alloc, &space, job.world.cells(), &roots, growers, gate)? {
-        WideGrown::Closed { vertices, arrows } => Ok(Answered::without_history(
-            Status::Done,
-            Answer::Wide {
-                cartan,
-                counts: Some(Counts { vertices, arrows }),
-            },
-        )),
+        WideGrown::Closed { vertices, arrows } => {
+            let counts = counts_of(vertices, arrows);
+            Ok(Answered::without_history(
+                Status::Done,
+                Answer::Wide {
+                    cartan,
+                    counts: Some(counts),
+                },
+            ))
+        }
         WideGrown::Full => Ok(Answered::without_history(
             Status::Full,
             Answer::Wide {
@@ -76,4 +79,12 @@ fn widen_job<T: Threads + Sync, G: Gate>(
             },
         )),
     }
+}
+
+/// The counts that are told.
+fn counts_of(vertices: u32, arrows: u64) -> Counts
+    ensures counts { result ≡ record { vertices = vertices; arrows = arrows } }
+    ensures few { vertices < 2 ^ 32 }
+{
+    Counts { vertices, arrows }
 }
