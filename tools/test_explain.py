@@ -3,13 +3,16 @@
 import doctest
 import re
 import subprocess
+import sys
 import unittest
 from fractions import Fraction
 
 import explain_fault
-from crystal_answer import read
 
 TOP = explain_fault.TOP
+sys.path.insert(0, str(TOP / "python"))
+
+from tavkrudd.graph import read  # noqa: E402
 
 
 def setUpModule():
@@ -22,6 +25,11 @@ def crystal(*words, job=""):
     ran = subprocess.run([TOP / "crystal", *words], input=job.encode(), capture_output=True)
     ran.stdout, ran.stderr = ran.stdout.decode(), ran.stderr.decode()
     return ran
+
+
+def graph_of(text):
+    """The graph that an answer tells."""
+    return read(text.encode().splitlines(keepends=True))
 
 
 def after(*lines):
@@ -130,9 +138,9 @@ class Causes(unittest.TestCase):
             head = f"crystal-job 1\ntype {kind} {rank}\n"
             said = crystal("grow", "1", job=f"{head}shape {rows}\n").stderr
             space, start = re.search("a product: (space [^,]*), and behind it (start .*)\n", said).groups()
-            answer = read(crystal("grow", "1", job=f"{head}{space}\n{start}\n").stdout)
-            self.assertEqual(len(answer.vertices), size, rows)
-            self.assertIn([Fraction(row) for row in rows.split()], [list(vertex.weight) for vertex in answer.vertices])
+            graph = graph_of(crystal("grow", "1", job=f"{head}{space}\n{start}\n").stdout)
+            self.assertEqual(len(graph), size, rows)
+            self.assertIn([Fraction(row) for row in rows.split()], [list(graph.weight(rank)) for rank in range(size)])
         said = crystal("grow", "1", job="crystal-job 1\ntype A 2\nshape 1 0 -1\n").stderr
         self.assertIn("in type A the same number may be added to all rows", said)
         self.assertIn("in type C 2 rows are whole", crystal("grow", "1", job="crystal-job 1\ntype C 2\nshape 3/2 1/2\n").stderr)
@@ -156,7 +164,7 @@ class Forms(unittest.TestCase):
         self.assertEqual(crystal("shape", "C", "3", "2", "1", "ends").stdout, shape.stdout)
         component = crystal("grow", "1", job="crystal-job 1\ntype B 2\nspace s v\nstart +- 0\n")
         self.assertEqual(crystal("component", "B", "2", "s", "v", "--", "+- 0").stdout, component.stdout)
-        self.assertEqual(len(read(crystal("shape", "A", "5", "6", "4", "2", "1").stdout).vertices), 92400)
+        self.assertEqual(len(graph_of(crystal("shape", "A", "5", "6", "4", "2", "1").stdout)), 92400)
 
     def test_examples_of_the_help(self):
         for mode in ["grow", "match", "census", "sample", "wide", "shape", "component"]:
