@@ -35,10 +35,23 @@ def words() -> argparse.ArgumentParser:
     parser.add_argument("--demazure", type=int, metavar="N", help="fill the subset of the Nth demazure ask (the first)")
     parser.add_argument("--label", choices=LABELS, default="word", help="what is written in a vertex (word)")
     parser.add_argument("--depth", type=int, metavar="N", help="the first rows alone, down to N arrows below the tops")
-    parser.add_argument("--indices", type=int, nargs="+", metavar="I", help="the arrows of these indices alone")
+    parser.add_argument("--indices", nargs="+", metavar="I", help="the arrows of these indices alone")
     parser.add_argument("--standalone", action="store_true", help="with --tikz: a whole LaTeX file")
     parser.add_argument("answer", nargs="?", help="a file with the answer (standard input)")
     return parser
+
+
+def read_words() -> argparse.Namespace:
+    """The words of this call. A file may stand behind the indices, which would take it for one of them."""
+    parser = words()
+    given = parser.parse_args()
+    if given.indices and len(given.indices) > 1 and given.answer is None and not given.indices[-1].isdigit():
+        given.answer = given.indices.pop()
+    for word in given.indices or ():
+        if not word.isdigit():
+            parser.error(f"argument --indices: no number: {word}")
+    given.indices = given.indices and [int(word) for word in given.indices]
+    return given
 
 
 def drawn(given: argparse.Namespace, lines) -> str:
@@ -63,7 +76,7 @@ def drawn(given: argparse.Namespace, lines) -> str:
 
 
 def main() -> None:
-    given = words().parse_args()
+    given = read_words()
     try:
         with open(given.answer, "rb") if given.answer else sys.stdin.buffer as source:
             sys.stdout.write(drawn(given, source))

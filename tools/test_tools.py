@@ -3,6 +3,7 @@
 import shutil
 import subprocess
 import sys
+import tempfile
 import types
 import unittest
 from fractions import Fraction
@@ -96,6 +97,11 @@ class Answers(unittest.TestCase):
     def test_a_part_of_a_graph(self):
         self.assertEqual(self.told("--depth", "1").count("->"), 1)
         self.assertEqual(self.told("--indices", "2").count("->"), 2)
+        with tempfile.NamedTemporaryFile("w") as kept:
+            kept.write(WHOLE)
+            kept.flush()
+            self.assertEqual(self.told("--indices", "1", "2", kept.name).count("->"), 3)
+        self.assertIn("--indices: no number: x", self.drawn("--indices", "x").stderr)
 
     def test_sage(self):
         made = []

@@ -10,7 +10,7 @@ The package writes jobs, runs the program, and reads its answers; `docs/GUIDE.md
 from .catalogue import crystals
 from .characters import Character, QDimension
 from .compare import Comparison, match
-from .crystal import Crystal, Subset, crystal
+from .crystal import Crystal, crystal
 from .element import Element
 from .errors import (
     CrystalError,
@@ -24,6 +24,7 @@ from .errors import (
 )
 from .jobs import Job, job_of
 from .many import answer_of, crystals_of
+from .subset import Subset
 from .tableau import Tableau
 from .words import census, product_tops, reflections, wide, word
 

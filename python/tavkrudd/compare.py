@@ -7,7 +7,7 @@ from typing import TYPE_CHECKING
 from . import program
 from .errors import TooSmall
 from .graph import NONE
-from .jobs import MOST_CELLS, Job
+from .jobs import MOST_CELLS, Job, top_word
 
 if TYPE_CHECKING:
     from .crystal import Crystal
@@ -63,31 +63,39 @@ def compared(one: Crystal, other: Crystal) -> Comparison:
 
 
 def _first(whole: Crystal):
-    """The element of the first start; a shape's is its only highest one."""
-    return whole.module_generators[0] if whole.job.shape else whole(whole.job.starts[0])
+    """The element of the first start, which in a shape is its top word."""
+    job = whole.job
+    return whole(top_word(job.shape, job.order) if job.shape else job.starts[0])
 
 
 def _walked(one: Crystal, first: int, other: Crystal, second: int) -> Comparison:
-    """The same for two spaces, in which the program cannot set one start beside the other: both graphs are walked at one
-    time, by the shortest walks first and f1, f2, .., e1, e2, .. in this order."""
+    """The same for two spaces, in which the program cannot set one start beside the other. The pairs that one walk leads
+    to are listed by the shortest walks first, and of these in the order f1, f2, .., e1, e2, ..: so the walk that is named
+    is the first one of which just one end is zero, or just one is its start."""
     arrows = [(f"{way}{i}", _table(one, way, i), _table(other, way, i)) for way in "fe" for i in one.index_set()]
-    partner, back, row = {first: second}, {second: first}, [(first, second, [])]
+    came: dict[tuple[int, int], tuple[tuple[int, int], str] | None] = {(first, second): None}
+    row = [(first, second)]
     while row:
         following = []
-        for here, there, walk in row:
+        for pair in row:
             for name, left, right in arrows:
-                x, y = left[here], right[there]
-                if (x == NONE) != (y == NONE) or x != NONE and (partner.get(x, y) != y or back.get(y, x) != x):
-                    return Comparison(None, _telling(walk + [name]))
-                if x != NONE and x not in partner:
-                    partner[x], back[y] = y, x
-                    following.append((x, y, walk + [name]))
+                x, y = left[pair[0]], right[pair[1]]
+                if (x == NONE) != (y == NONE) or (x == first) != (y == second):
+                    return Comparison(None, [*_walk_to(came, pair), name])
+                if x != NONE and (x, y) not in came:
+                    came[x, y] = pair, name
+                    following.append((x, y))
         row = following
-    return Comparison(len(partner))
+    return Comparison(len(came))
 
 
-def _telling(walk: list[str]) -> list[str]:
-    return walk
+def _walk_to(came: dict, pair: tuple[int, int]) -> list[str]:
+    """The arrows that led to a pair, the first one first."""
+    walk = []
+    while came[pair] is not None:
+        pair, name = came[pair]
+        walk.append(name)
+    return walk[::-1]
 
 
 def _table(whole: Crystal, way: str, index: int):

@@ -12,6 +12,7 @@ from .element import Element
 from .errors import NotAnElement, TooSmall
 from .graph import NONE, Graph, read, weight_of
 from .jobs import DEFAULT_CELLS, MOST_CELLS, Job, Row, Weight, job_of, word_text
+from .subset import Subset
 
 
 def crystal(
@@ -115,7 +116,7 @@ class Crystal:
             return None
 
     def _place(self, token: str) -> int:
-        if token.strip("+-") == "" and (len(token) > 1 or self.job.rank == 1):
+        if len(token) > 1 and token.strip("+-") == "":
             return int("".join("01"[sign == "-"] for sign in token), 2)
         letter = int(token)
         return letter if letter > 0 else self.job.rank + 1 if letter == 0 else 2 * self.job.rank + 2 + letter
@@ -224,18 +225,17 @@ class Crystal:
 
     def subcrystal(self, indices: Iterable[int]) -> list[Subset]:
         """The restriction to these indices: its components, each led by its highest element."""
-        chosen, left, parts = self._indices(indices), set(range(len(self))), []
+        chosen, parts = self._indices(indices), []
         for top in self.highest_weight_vectors(chosen):
             row, found = [top.rank], {top.rank}
             while row:
                 below = {self._graph.f[i][rank] for rank in row for i in chosen} - {NONE} - found
                 found |= below
                 row = list(below)
-            left -= found
             parts.append(Subset(self, sorted(found), chosen))
         return parts
 
-    def is_isomorphic(self, other: Crystal) -> Comparison:
+    def is_isomorphic(self, other: Crystal) -> Any:
         """Whether the component of the first start is that of the other crystal's first start, start beside start."""
         from .compare import compared
 
@@ -265,37 +265,6 @@ class Crystal:
         from .drawing import html
 
         return html(self)
-
-
-class Subset(Sequence):
-    """Some elements of a crystal, ascending, as a Demazure subset or a component of a restriction."""
-
-    def __init__(self, whole: Crystal, ranks: Sequence[int], indices: Iterable[int] | None = None) -> None:
-        self.crystal, self.ranks = whole, list(ranks)
-        self.indices = tuple(indices) if indices is not None else whole.index_set()
-
-    def __len__(self) -> int:
-        return len(self.ranks)
-
-    def __getitem__(self, place):
-        return Element(self.crystal, self.ranks[place])
-
-    def __contains__(self, element: object) -> bool:
-        return isinstance(element, Element) and element.parent() is self.crystal and element.rank in set(self.ranks)
-
-    def highest(self) -> list[Element]:
-        """Its elements at which e of each of its indices gives zero."""
-        return [b for b in self if b.is_highest_weight(self.indices)]
-
-    def character(self) -> Character:
-        """The weights of its elements with their multiplicities: of a Demazure subset the Demazure character."""
-        counts: dict[Weight, int] = {}
-        for b in self:
-            counts[b.weight()] = counts.get(b.weight(), 0) + 1
-        return Character(self.crystal.job.kind, self.crystal.job.rank, counts)
-
-    def __repr__(self) -> str:
-        return f"{len(self):,} elements of {self.crystal!r}"
 
 
 def _zeros(tables: list, many: int) -> list[int]:

@@ -11,7 +11,7 @@ from .picture import COLOURS, Node, Picture, TooLarge, is_barred, picture
 if TYPE_CHECKING:
     from .crystal import Crystal
 
-GAP_ACROSS, GAP_DOWN, CELL = 26, 64, 18
+GAP_ACROSS, GAP_DOWN, CELL, NEAR = 26, 64, 18, 8
 
 
 def colour(index: int) -> str:
@@ -48,8 +48,6 @@ def _dot_label(node: Node, label: str) -> str:
 
 HEAD = r"""\documentclass[border=4pt]{standalone}
 \usepackage{tikz}
-\usepackage{ytableau}
-\begin{document}
 """
 
 
@@ -91,7 +89,8 @@ def tikz(shown: Picture, label: str = "word", standalone: bool = False) -> str:
         one = names.get(colour(i), colour(i))
         lines.append(rf"  \draw[->, {one}] (v{source}) -- node[auto, font=\scriptsize] {{{i}}} (v{target});")
     text = "\n".join(lines + [r"\end{tikzpicture}"]) + "\n"
-    return HEAD + text + r"\end{document}" + "\n" if standalone else text
+    needed = "\\usepackage{ytableau}\n" if label == "tableau" else ""
+    return f"{HEAD}{needed}\\begin{{document}}\n{text}\\end{{document}}\n" if standalone else text
 
 
 def _label_size(shown: Picture, label: str) -> tuple[float, float]:
@@ -145,12 +144,20 @@ def _head(index: int) -> str:
 def _arrow(at: dict, sizes: dict, source: int, index: int, target: int) -> str:
     (x, y), (u, v) = at[source], at[target]
     y, v = y + sizes[source][1] / 2, v - sizes[target][1] / 2
-    across, down = x + (u - x) * 0.45, y + (v - y) * 0.45
+    across, down = _beside((x, y), (u, v))
     return (
         f'<g class="arrow" data-index="{index}" data-from="{source}" data-to="{target}">'
         f'<line x1="{x:.1f}" y1="{y:.1f}" x2="{u:.1f}" y2="{v:.1f}" stroke="{colour(index)}" marker-end="url(#head{index})"/>'
-        f'<text x="{across + 5:.1f}" y="{down:.1f}" fill="{colour(index)}" font-size="11">{index}</text></g>'
+        f'<text x="{across:.1f}" y="{down + 4:.1f}" text-anchor="middle" fill="{colour(index)}" font-size="11">{index}</text></g>'
     )
+
+
+def _beside(start: tuple[float, float], end: tuple[float, float]) -> tuple[float, float]:
+    """The middle of an arrow's label: beside its line on the outer side, near its start, since arrows cross further on."""
+    (x, y), (u, v) = start, end
+    length = ((u - x) ** 2 + (v - y) ** 2) ** 0.5 or 1.0
+    away = NEAR if u >= x else -NEAR
+    return x + (u - x) * 0.3 + away * (v - y) / length, y + (v - y) * 0.3 - away * (u - x) / length
 
 
 def _vertex(node: Node, label: str, at: tuple[float, float], size: tuple[float, float]) -> str:

@@ -122,6 +122,17 @@ def _starts(start: str | Iterable | None) -> list[str]:
     return [word_text(word) for word in words]
 
 
+def top_word(shape: Sequence[int], order: str = "standard") -> str:
+    """The highest-weight word of a shape: its columns from left to right, each from bottom to top; in Kashiwara's order
+    the other way round.
+
+    >>> top_word((2, 1)), top_word((2, 1), "kashiwara")
+    ('2 1 1', '1 1 2')
+    """
+    letters = [str(n) for column in range(shape[0]) for n in range(sum(row > column for row in shape), 0, -1)]
+    return " ".join(letters if order == "standard" else letters[::-1])
+
+
 def _row(value: Row) -> Coordinate:
     """A row of a shape: whole or half-whole."""
     # Numbers of Sage are read by their texts.

@@ -1,6 +1,6 @@
 #!/usr/bin/env python3
-"""Tries many jobs on engines: threads always; two workers of Dask, one of which is ended in the middle, GNU parallel and
-an array job of Slurm where these are installed. All give the answers of 200 jobs, byte for byte."""
+"""Tries many jobs on engines: threads always; two workers of Dask, one of which is ended in the middle, and GNU parallel
+where these are installed. All give the answers that the program gives, byte for byte."""
 import os
 import shutil
 import subprocess
@@ -8,6 +8,7 @@ import sys
 import tempfile
 import unittest
 from pathlib import Path
+from unittest import mock
 
 TOP = Path(__file__).resolve().parents[2]
 sys.path[:0] = [str(TOP / "python")]
@@ -62,6 +63,17 @@ class Engines(unittest.TestCase):
         self.assertEqual(told(crystals(jobs(), progress=False)), self.wanted)
         self.assertEqual(sum("no word of the space" in answer for answer in self.wanted), 20)
 
+    def test_a_cut_answer(self):
+        """A program that ends well behind a part of an answer is not believed."""
+        whole = self.wanted[0]
+        with tempfile.TemporaryDirectory() as folder:
+            program = Path(folder) / "cut"
+            for size in (0, len(whole) // 2, len(whole) - 1):
+                program.write_text(f"#!/bin/sh\ncat >/dev/null\nprintf %s '{whole[:size]}'\n")
+                program.chmod(0o755)
+                with mock.patch.dict(os.environ, {"TAVKRUDD": str(program)}):
+                    self.assertEqual([str(answer) for answer in crystals(jobs(1), progress=False)], ["the answer was cut off"])
+
     def test_dask(self):
         python = next((p for p in (sys.executable, "/usr/bin/python3") if has(p, "distributed")), None)
         if python is None:
@@ -76,7 +88,7 @@ class Engines(unittest.TestCase):
         if not shutil.which("parallel"):
             self.skipTest("GNU parallel is not installed")
         with tempfile.TemporaryDirectory() as folder:
-            for number, text in enumerate(jobs()):
+            for number, text in enumerate(jobs(40)):
                 (Path(folder) / f"{number:03}.job").write_text(text)
             command = f"{find()} grow 1 < {{}} > {{.}}.answer 2>/dev/null"
             names = sorted(str(p) for p in Path(folder).glob("*.job"))

@@ -3,12 +3,14 @@
 in tests/peers, never from the program."""
 import doctest
 import importlib
+import io
 import pkgutil
 import re
 import sys
 import unittest
 from fractions import Fraction
 from pathlib import Path
+from unittest import mock
 
 TOP = Path(__file__).resolve().parents[2]
 sys.path[:0] = [str(TOP / "python"), str(TOP / "tests" / "peers"), str(Path(__file__).resolve().parent)]
@@ -16,7 +18,7 @@ sys.path[:0] = [str(TOP / "python"), str(TOP / "tests" / "peers"), str(Path(__fi
 import crystals as model  # noqa: E402  (the plain model of the peers)
 import tavkrudd  # noqa: E402
 from bad_inputs import BAD  # noqa: E402
-from tavkrudd import crystal, crystals, errors, graph  # noqa: E402
+from tavkrudd import compare, crystal, crystals, errors, graph  # noqa: E402
 from tavkrudd.errors import Interrupted  # noqa: E402
 
 HALF = Fraction(1, 2)
@@ -93,6 +95,27 @@ class Crystals(unittest.TestCase):
         self.assertFalse(different)
         self.assertEqual(different.walk, ["f2"])
 
+    def test_a_shape_with_a_further_start(self):
+        """It has two tops, and is compared from its own."""
+        whole = crystal("A", 2, shape=[2, 1], start="1 1 1")
+        self.assertEqual([str(b) for b in whole.module_generators], ["1 1 1", "2 1 1"])
+        self.assertTrue(whole.is_isomorphic(crystal("A", 2, shape=[2, 1])))
+        self.assertTrue(whole.is_isomorphic(crystal("A", 2, factors="v v v v v v", start="3 2 1 2 1 1")))
+
+    def test_the_walk_that_tells(self):
+        """The walk through two graphs is that of the program's mode, where this can answer too."""
+        for kind, rank, factors, one, other in [
+            ("A", 2, "v v v v", "2 1 1 3", "1 2 3 1"),
+            ("A", 1, "v v v v v", "1 2 1 1 2", "2 1 1 1 2"),
+            ("B", 2, "s v v", "+- 1 2", "-+ 2 1"),
+            ("C", 2, "v v v", "-2 1 2", "2 1 -2"),
+            ("C", 2, "v v v", "1 -1 1", "2 -2 1"),
+            ("D", 3, "s+ v s-", "+++ 1 -++", "+-- 1 +-+"),
+        ]:
+            told = tavkrudd.match(tavkrudd.job_of(kind, rank, factors=factors, start=[one, other]))
+            a, b = (crystal(kind, rank, factors=factors, start=start) for start in (one, other))
+            self.assertEqual(compare._walked(a, a(one).rank, b, b(other).rank), told, (kind, one, other))
+
     def test_products(self):
         letters = crystals.Letters("A2")
         whole = crystals.TensorProduct(letters, letters, letters)
@@ -128,6 +151,14 @@ class Answers(unittest.TestCase):
         for size in range(len(text) - 1):
             with self.assertRaises(Interrupted):
                 graph.read(text[:size].splitlines(keepends=True))
+
+    def test_progress(self):
+        """A reading of more than two seconds is told on standard error, and an argument silences it."""
+        lines = b"crystal A 1\ngraph 2 1\n0 | 1 | 1 0 | 1:1\n1 | 2 | 0 1 | -\nend\n".splitlines(keepends=True)
+        for after, progress, told in [(1, True, ""), (3, True, "2 of 2 elements read"), (3, False, ""), (3, None, "")]:
+            with mock.patch.object(graph.time, "monotonic", side_effect=[0, *[after] * 9]), mock.patch("sys.stderr", io.StringIO()) as said:
+                graph.read(lines, progress)
+            self.assertEqual(said.getvalue().split("\r")[-1].strip(), told, (after, progress))
 
     def test_meanings(self):
         """The tables of faults are those of docs/JOB.md."""
