@@ -101,20 +101,37 @@ def _token(element: Any) -> str:
 
 
 def from_sage(whole: Any) -> Crystal:
-    """The crystal of this package that is a crystal of Sage: of a shape, of letters, or of spins.
+    """The crystal of this package that is a crystal of Sage: of a shape, of letters, of spins, or a product of letters and
+    spins with generators. Its words are those of Sage's elements.
 
     >>> from sage.all import crystals                                # doctest: +SKIP
     >>> len(from_sage(crystals.Tableaux(["C", 3], shape=[2, 1])))    # doctest: +SKIP
     64
     """
-    from .catalogue import crystals as catalogue
+    from .crystal import Crystal
+    from .jobs import Job, job_of
 
     kind, rank = whole.cartan_type().type(), whole.cartan_type().rank()
-    names = {"ClassicalCrystalOfLetters": "Letters", "Spins": "Spins"}
-    for name in ("Letters", "Spins"):
-        if name in type(whole).__name__ and name in names.values():
-            return getattr(catalogue, name)((kind, rank))
     shapes = getattr(whole, "shapes", None)
     if shapes is not None and len(shapes) == 1:
-        return catalogue.Tableaux((kind, rank), shape=list(shapes[0]))
-    raise ValueError(f"no crystal that this package has: {whole}")
+        return Crystal(job_of(kind, rank, shape=list(shapes[0])))
+    is_product = hasattr(whole, "crystals")
+    factors = tuple(_factor(part) for part in (whole.crystals if is_product else [whole]))
+    tops = whole.module_generators if is_product else [[top] for top in whole.module_generators]
+    return Crystal(Job(kind, rank, factors, tuple(" ".join(map(_token, top)) for top in tops)))
+
+
+def _factor(part: Any) -> str:
+    """The factor that a base crystal of Sage is."""
+    from sage.all import crystals
+
+    cartan = part.cartan_type()
+    names = {"v": crystals.Letters}
+    if cartan.type() == "B":
+        names["s"] = crystals.Spins
+    if cartan.type() == "D":
+        names |= {"s+": crystals.SpinsPlus, "s-": crystals.SpinsMinus}
+    for name, make in names.items():
+        if part == make(cartan):
+            return name
+    raise ValueError(f"no crystal that this package has: {part}")

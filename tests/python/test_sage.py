@@ -55,6 +55,17 @@ class Sage(unittest.TestCase):
             self.assertEqual(len(bridge.from_sage(theirs)), theirs.cardinality())
         self.assertEqual(len(bridge.from_sage(crystals.Letters(["B", 3]))), 7)
         self.assertEqual(len(bridge.from_sage(crystals.Spins(["B", 3]))), 8)
+        self.assertEqual(len(bridge.from_sage(crystals.SpinsMinus(["D", 4]))), 8)
+        for path in sorted((TOP / "tests" / "peers" / "jobs").iterdir()):
+            whole = Crystal(job_of_text(path.read_text()))
+            if whole.job.order != "standard":
+                continue
+            theirs, elements = bridge.sage_crystal(whole), bridge.elements_in_sage(whole)
+            if not whole.job.shape:
+                tops = [list(elements[top.word]) for top in whole.module_generators]
+                theirs = crystals.TensorProduct(*theirs.crystals, generators=tops)
+            with self.subTest(job=path.name):
+                self.assertEqual(bridge.from_sage(theirs).words, whole.words)
 
     def test_names(self):
         """The methods of this package and of Sage, on crystals of all types, in both tensor orders."""
