@@ -1,7 +1,7 @@
 #!/usr/bin/env python3
 """Makes each allocation of the program fail in turn, one a run, and judges how the run ends.
 
-Usage: tests/refused_memory.py [ROW..]    (four rows of rows/ where none is given)
+Usage: tests/refused_memory.py [ROW..]    (five rows of rows/ where none is given)
 
 A small library in C, loaded before the C library, stands in for malloc and realloc and gives nothing at the Nth call, for
 N = 1, 2, .. until a run has no Nth call. A run must end with the status 6, with nothing written. A few blocks the program
@@ -19,7 +19,7 @@ from pathlib import Path
 
 TOP = Path(__file__).resolve().parents[1]
 PROGRAM = TOP / "crates" / "crystal_shell" / "out" / "crystal_shell"
-ROWS = ["cells_exactly_fit", "order_of_the_indices", "two_sessions_add_one_word", "strings_and_ends"]
+ROWS = ["cells_exactly_fit", "order_of_the_indices", "two_sessions_add_one_word", "strings_and_ends", "wide_letters_of_a1"]
 NO_MEMORY = 6
 LIBRARY = r"""
 #include <stdatomic.h>
