@@ -1,7 +1,8 @@
 #!/usr/bin/env bash
 # Times `wide` on the largest crystal of a shape in C_4 that is twice a shape and fits 1,048,576 cells (989,604 elements), beside
 # `grow 1` on the same crystal as one shape: processor time and wall time, the least of several runs, of `wide` by one and by four
-# growers; the largest resident memory by cell, less the words of arrows; and where valgrind is installed and --count is given, the
+# growers; the resident memory of `wide 1` by cell, less the words of arrows, the most that is seen once the table is made (a list of
+# as many zeros, of which the kit makes a table, is given back then); and where valgrind is installed and --count is given, the
 # instructions of `wide 1` beside those of `grow 1`.
 #
 # Usage: bench/wide.sh [--count] [RUNS]    (3 runs where none is given)
@@ -34,6 +35,18 @@ def ran(words, job, before=()):
         return wall, used.ru_utime + used.ru_stime, used.ru_maxrss * 1024, out.readline().decode().strip()
 
 
+def memory_of_growth():
+    """The most resident memory behind the peak at which the table is made. Without settings the C library gives blocks back."""
+    with open("bench/jobs/wide_c4.job") as given:
+        process = subprocess.Popen([program, "wide", "1"], stdin=given, stdout=subprocess.DEVNULL, env={})
+        seen = []
+        while process.poll() is None:
+            lines = Path(f"/proc/{process.pid}/status").read_text().splitlines()
+            seen += [int(line.split()[1]) * 1024 for line in lines if line.startswith("VmRSS")]
+            time.sleep(0.005)
+    return max(seen[seen.index(max(seen)) + 3 :])
+
+
 best = {}
 for _ in range(runs):
     for words, job in ways.items():
@@ -46,7 +59,7 @@ for words, (wall, used, memory, said) in best.items():
 print(f"wide 1 beside grow 1: {best['wide 1'][1] / best['grow 1'][1]:.2f} of the processor time")
 print(f"wide 4 is {best['wide 1'][0] / best['wide 4'][0]:.2f} times as fast as wide 1 by the clock")
 arrows = 8 * 2 * rank * (cells + 32)
-print(f"memory of wide 1 without the words of arrows: {(best['wide 1'][2] - arrows) / (cells + 32):.1f} bytes a cell")
+print(f"memory of wide 1 while it grows, without the words of arrows: {(memory_of_growth() - arrows) / (cells + 32):.1f} bytes a cell")
 if is_counted:
     counts = {}
     for words in ("grow 1", "wide 1"):
