@@ -122,6 +122,13 @@ class Crystals(unittest.TestCase):
         self.assertEqual((len(whole), len(whole.module_generators)), (27, 4))
         self.assertEqual(tavkrudd.product_tops(letters, [1]), {"1 1": (2, 0, 0), "2 1": (1, 1, 0)})
 
+    def test_wide(self):
+        """The mode wide: twice the letters of A_1 have three words and two arrows from `1 1`."""
+        job = "crystal-job 1\ntype A 1\nspace v\nstart 1\n"
+        self.assertEqual(tavkrudd.wide(job, 2), (3, 2))
+        with self.assertRaisesRegex(errors.TooSmall, "more than 2 elements"):
+            tavkrudd.wide(job + "cells 2\n")
+
     def test_model(self):
         """All arrows and weights of a spin and two vectors in B_3, by the plain model."""
         whole = crystal("B", 3, factors="s v v", start="+++ 2 1")
