@@ -13,6 +13,11 @@ from unittest import mock
 TOP = Path(__file__).resolve().parents[2]
 sys.path[:0] = [str(TOP / "python")]
 
+# The program itself, which the script `crystal` runs: a job costs a few milliseconds.
+PROGRAM = TOP / "crates" / "crystal_shell" / "out" / "crystal_shell"
+if PROGRAM.exists():
+    os.environ.setdefault("TAVKRUDD", str(PROGRAM))
+
 from tavkrudd import CrystalError, answer_of, crystals  # noqa: E402
 from tavkrudd.program import find  # noqa: E402
 
