@@ -41,6 +41,16 @@ TRY = """<script>
   const before = document.getElementById("view").getAttribute("transform");
   document.getElementById("graph").dispatchEvent(new KeyboardEvent("keydown", { key: "+" }));
   found.zooms = before !== document.getElementById("view").getAttribute("transform");
+  const press = (element, key) => element.dispatchEvent(new KeyboardEvent("keydown", { key: key, bubbles: true }));
+  const zoomed = document.getElementById("view").getAttribute("transform");
+  press(document.getElementById("graph"), "ArrowLeft");
+  found.moves = zoomed !== document.getElementById("view").getAttribute("transform");
+  press(document.getElementById("graph"), "0");
+  found.fits = before === document.getElementById("view").getAttribute("transform");
+  press(document.getElementById("graph"), "Escape");
+  found.unmarked = all(".arrow.marked").length;
+  press(vertex, "Enter");
+  found.remarked = all(".arrow.marked").length;
   const pre = document.createElement("pre");
   pre.id = "found";
   pre.textContent = JSON.stringify(found);
@@ -75,11 +85,24 @@ class Page(unittest.TestCase):
         self.assertIn("walk to the top 2 1 1: e1 e2", found["told"])
         self.assertIn("eps_1 = 1   phi_1 = 1", found["told"])
         self.assertEqual((found["shown"], found["members"], found["found"], found["zooms"]), (4, 5, 2, True))
+        self.assertEqual((found["moves"], found["fits"], found["unmarked"], found["remarked"]), (True, True, 0, 2))
+
+    def test_print(self):
+        """The page is printed with its graph, on few pages."""
+        with tempfile.TemporaryDirectory() as folder:
+            page, printed = Path(folder) / "page.html", Path(folder) / "page.pdf"
+            page.write_text(crystal("A", 2, shape=[2, 1]).page(), encoding="utf-8")
+            words = [BROWSER, "--headless", "--no-sandbox", "--disable-gpu", f"--print-to-pdf={printed}", f"--user-data-dir={folder}/profile", page.as_uri()]
+            subprocess.run(words, capture_output=True, timeout=60)
+            pages = printed.read_bytes().count(b"/Type /Page\n") + printed.read_bytes().count(b"/Type /Page/") + printed.read_bytes().count(b"/Type /Page ")
+        self.assertIn(pages, (1, 2))
 
     def test_many_vertices(self):
-        whole = crystal("A", 4, shape=[4, 3, 2, 1])
-        found = tried(whole.page(demazure=[[1]]), rank=0, search="4 3 2 1")
-        self.assertEqual((found["errors"], found["vertices"], found["arrows"]), ([], 1024, 2304))
+        # 1,911 elements by Weyl's formula: 6.5/2.5 * 3.5/1.5 * 30/4 * 42/6 * 12/2.
+        whole = crystal("B", 3, shape=[4, 2])
+        arrows = sum(target >= 0 for table in whole.f.values() for target in table)
+        found = tried(whole.page(demazure=[[1]]), rank=0, search="1 1")
+        self.assertEqual((found["errors"], found["vertices"], found["arrows"]), ([], 1911, arrows))
 
 
 if __name__ == "__main__":
