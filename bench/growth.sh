@@ -1,5 +1,5 @@
 #!/usr/bin/env bash
-# Times growth on the shared table (crates/growth_bench), by one grower and by four on threads of their own, beside the
+# Times growth on the shared table (crates/graph_bench), by one grower and by four on threads of their own, beside the
 # growth of the yardstick (bench/yardstick.rs, plain Rust, one thread, a private table): the jobs c4 and d5 of bench/jobs.
 # The shared table has the memory settings of `crystal`, the yardstick runs as it is. From each time of the shared table
 # that of a run is taken which makes the table and grows nothing. Prints the least of
@@ -14,7 +14,7 @@ runs=${1:-7}
 command -v rustc >/dev/null || { echo "rustc is not installed: nothing is timed"; exit 0; }
 mkdir -p bench/out
 rustc --edition 2021 -C opt-level=3 -o bench/out/yardstick bench/yardstick.rs || exit 1
-(cd crates/growth_bench && rt run > /dev/null) || exit 1
+(cd crates/graph_bench && rt run > /dev/null) || exit 1
 python3 - "$runs" "$(eval "$(grep '^memory' crystal)"; echo "$memory")" <<'PY'
 import os, resource, subprocess, sys, time
 from pathlib import Path
@@ -22,8 +22,8 @@ from pathlib import Path
 runs = int(sys.argv[1])
 commands = {"yardstick": ["bench/out/yardstick", "growth"]}
 for growers in ("0", "1", "4"):
-    commands[growers] = ["crates/growth_bench/out/growth_bench", growers]
-settings = {"crates/growth_bench/out/growth_bench": os.environ | {"GLIBC_TUNABLES": sys.argv[2]}}
+    commands[growers] = ["crates/graph_bench/out/graph_bench", "growth", growers]
+settings = {"crates/graph_bench/out/graph_bench": os.environ | {"GLIBC_TUNABLES": sys.argv[2]}}
 
 
 def processor():

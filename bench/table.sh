@@ -12,12 +12,12 @@ codes=${2:-1048576}
 command -v rustc >/dev/null || { echo "rustc is not installed: nothing is timed"; exit 0; }
 mkdir -p bench/out
 rustc --edition 2021 -C opt-level=3 -o bench/out/table_yardstick bench/table_yardstick.rs || exit 1
-(cd crates/table_bench && rt run > /dev/null) || exit 1
+(cd crates/graph_bench && rt run > /dev/null) || exit 1
 python3 - "$runs" "$codes" <<'PY'
 import resource, subprocess, sys, time
 
 runs, codes, pairs = int(sys.argv[1]), sys.argv[2], "262144"
-programs = {"yardstick": "bench/out/table_yardstick", "table": "crates/table_bench/out/table_bench"}
+programs = {"yardstick": ["bench/out/table_yardstick"], "table": ["crates/graph_bench/out/graph_bench", "adds"]}
 
 
 def processor():
@@ -31,7 +31,7 @@ for _ in range(runs):
         for seats in ("0", "1", "4", "no-pairs", "pairs"):
             many = pairs if "pairs" in seats else codes
             begin, before = time.perf_counter(), processor()
-            said = subprocess.run([program, seats, many], capture_output=True, check=True).stdout
+            said = subprocess.run([*program, seats, many], capture_output=True, check=True).stdout
             wall, used = time.perf_counter() - begin, processor() - before
             if seats not in ("0", "no-pairs") and said != b"new %s\n" % many.encode():
                 sys.exit(f"{name} with {seats} seats says {said}")

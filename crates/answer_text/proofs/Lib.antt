@@ -2,3 +2,5 @@ pub mod Arrows
 mod Loops
 mod Printed
 mod Wholes
+mod Spacing
+pub mod OneAnswer

@@ -1,19 +1,19 @@
 -- How what several calls printed comes together.
-use Rattle.std.proofs.Common.{◌≡◌, ◌∙◌, refl, sym, ap, subst, ℕ, ◌≤◌, List, [], ◌++◌, length, take, drop, append_assoc, append-nil, Option, Result, Ok, Err, OnOk, OnErr, IsErrAnd, arith}
+use Rattle.std.proofs.Common.{◌≡◌, ◌∙◌, refl, sym, ap, subst, ℕ, ◌≤◌, List, [], ◌++◌, length, take, drop, append_assoc, append-nil, Option, Result, Ok, Err, OnOk, IsErrAnd, arith}
 use Rattle.std.proofs.Math.Seq.{take-append_seam}
 use Rattle.std.proofs.lemmas.List.{take-append-drop, length-append}
 use Rattle.std.proofs.KnownBytes.{Appends-trans, Appends-nil}
 use Rattle.std.specs.Io.KnownBytes.{Appends}
-use Rattle.crystal_streams.specs.Faults.{Rose}
+use Rattle.crystal_streams.proofs.Written.{then_fault}
 use Rattle.crystal_streams.specs.Writes.{Writes}
 use Rattle.answer_text.specs.Prints.{Prints}
 
 -- nothing was printed yet
-pub prints_nothing : {T E : Type 0} (value : T) (held : Option (List ℕ)) (faults : ℕ) (page : List ℕ) → Prints {T = T} {E = E} held held faults faults page page [] (Ok value)
-prints_nothing value held faults page = record {
+pub prints_nothing : {T E : Type 0} (value : T) (taken : Option (List ℕ)) (faults : ℕ) (page : List ℕ) → Prints {T = T} {E = E} taken taken faults faults page page [] (Ok value)
+prints_nothing value taken faults page = record {
   given = [];
   rest = page;
-  taken = Appends-nil held;
+  taken = Appends-nil taken;
   whole = sym (append-nil page);
   kept = refl;
   fault = tt;
@@ -45,10 +45,6 @@ joined : (given given' rest rest' page page' text more : List ℕ) → given ++ 
 joined given given' rest rest' page page' text more first kept second =
     append_assoc given given' rest' ∙ ap (λ (l : List ℕ). given ++ l) second ∙ sym (append_assoc given page' more)
     ∙ ap (λ (l : List ℕ). (given ++ l) ++ more) kept ∙ ap (λ (l : List ℕ). l ++ more) first ∙ append_assoc page text more
-
-then_fault : {T E : Type 0} (before middle after : ℕ) (result : Result T E) → before ≤ middle → OnErr result (Rose middle after) → OnErr result (Rose before after)
-then_fault before middle after (Ok value) first second = tt
-then_fault before middle after (Err error) first second = omega arith
 
 -- a text was printed, and then a further one with this result
 pub prints_then : {T E T' E' : Type 0} {value : T} {before middle after : Option (List ℕ)} {faults faults_middle faults_after : ℕ} {page page_middle page_after text more : List ℕ} {result : Result T' E'}

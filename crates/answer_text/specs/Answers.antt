@@ -1,8 +1,7 @@
 -- Whole answers: their texts, and which of them can be printed.
 use Rattle.std.specs.Prelude.{ℕ, ◌≡◌, ◌<◌, ◌≤◌, ◌^◌, List, [], ◌++◌, length, slice_index_or, string_bytes, All, Option, Some, None, IfSome}
 use Rattle.std.specs.List.{flat_map}
-use Rattle.crystal_cartan.specs.Types.{CartanType, HasIndex}
-use Rattle.crystal_cartan.specs.Weights.{IsSmall}
+use Rattle.crystal_cartan.specs.Types.{CartanType}
 use Rattle.tensor_words.specs.Spaces.{SpaceType, size}
 use Rattle.tableau_reading.specs.Shapes.{ShapeType, shape_space}
 use Rattle.canonical_graph.specs.Graphs.{FinishedType}
@@ -11,11 +10,12 @@ use Rattle.crystal_match.specs.declared.comparing.Verdict.TheVariants.{Same, Dif
 use Rattle.session_desk.specs.declared.reply.Reply.{Reply}
 use Rattle.session_desk.specs.Texts.{IsPrintable}
 use Rattle.crystal_streams.specs.Lines.{ended}
+use Rattle.ask_answers.specs.Answers.{IsPrintableAsk}
+use Rattle.ask_answers.specs.declared.values.AskAnswer.{AskAnswer}
+use Rattle.ask_answers.specs.declared.values.AskAnswer.TheVariants.{Demazure, Tops, Reflection}
 use Rattle.answer_text.specs.Texts.{head_line, sessions_text, graph_head, graph_part, full_line, statistic_text, end_line, words_refusal, job_refusal}
 use Rattle.answer_text.specs.Asks.{demazure_text, tops_text, reflection_text}
 use Rattle.answer_text.specs.Modes.{census_line, tableaux_text, same_line, differs_line, wide_line, sample_line, sessions_line, commands_line}
-use Rattle.answer_text.specs.declared.answers.AskAnswer.{AskAnswer}
-use Rattle.answer_text.specs.declared.answers.AskAnswer.TheVariants.{Demazure, Tops, Reflection}
 use Rattle.answer_text.specs.declared.answers.Report.{Report}
 use Rattle.answer_text.specs.declared.answers.Counts.{Counts}
 use Rattle.answer_text.specs.declared.answers.Whole.{Whole}
@@ -37,13 +37,6 @@ asks_text f asks = flat_map (ask_text f) asks
 -- the reports of statistics one after another
 abbrev pub reports_text : List Report → List ℕ
 reports_text reports = flat_map (λ report. statistic_text (string_bytes report.name) report.bytes.items) reports
-
--- an answer to an ask can be printed: its indices, ranks and weights are those of the graph
-abbrev pub IsPrintableAsk : FinishedType → AskAnswer → Type 0
-IsPrintableAsk f (Demazure indices ranks) =
-    All (HasIndex f.space.cartan) indices.items × (length indices.items ≤ 64) × All (λ rank. rank < length f.codes) ranks.items
-IsPrintableAsk f (Tops shape tops) = All (λ top. top.0 < length f.codes) tops.items × All (λ top. IsSmall top.1) tops.items
-IsPrintableAsk f (Reflection index images) = length images.items < 2 ^ 32
 
 -- the names of statistics are short
 abbrev pub AreShort : List Report → Type 0

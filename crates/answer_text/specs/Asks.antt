@@ -6,8 +6,8 @@ use Rattle.tensor_words.specs.declared.spaces.Order.TheVariants.{Standard, Kashi
 use Rattle.tableau_reading.specs.Shapes.{ShapeType, shape_space}
 use Rattle.tableau_reading.specs.Readings.{top_word}
 use Rattle.tableau_reading.specs.Texts.{word_text, weight_text}
-use Rattle.canonical_graph.specs.Graphs.{FinishedType}
-use Rattle.canonical_graph.specs.Texts.{bar, vertex_word}
+use Rattle.canonical_graph.specs.Graphs.{FinishedType, vertex_word}
+use Rattle.text_pieces.specs.Pieces.{bar}
 use Rattle.crystal_streams.specs.Lines.{ended}
 use Rattle.answer_text.specs.Texts.{numbered}
 

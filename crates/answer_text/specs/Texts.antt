@@ -7,7 +7,7 @@ use Rattle.crystal_cartan.specs.declared.types.Kind.{Kind}
 use Rattle.crystal_cartan.specs.declared.types.Kind.TheVariants.{A, B, C, D}
 use Rattle.tensor_words.specs.Spaces.{SpaceType}
 use Rattle.canonical_graph.specs.Graphs.{FinishedType, arrow_count}
-use Rattle.canonical_graph.specs.Texts.{vertex_text}
+use Rattle.answer_text.specs.Vertices.{vertex_text}
 use Rattle.session_desk.specs.declared.reply.Reply.{Reply}
 use Rattle.session_desk.specs.Texts.{reply_text}
 

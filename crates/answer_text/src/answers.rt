@@ -1,31 +1,12 @@
 //! The answer as data, before it is printed.
 
+use ask_answers::AskAnswer;
 use canonical_graph::Finished;
-use crystal_cartan::{Cartan, Weight};
+use crystal_cartan::Cartan;
 use crystal_match::Verdict;
 use session_desk::Replies;
 use tableau_reading::Shape;
 use tensor_words::{Codes, Space};
-
-/// What an ask about a finished graph is answered. Vertices stand as their ranks.
-#[derive(Debug, Drop)]
-pub enum AskAnswer {
-    /// The members of the Demazure subset of these indices, in ascending rank.
-    Demazure {
-        indices: Vec<u8>,
-        ranks: Vec<u32>,
-    },
-    /// The vertices that are tops beside the top of this shape, in ascending rank, each with the weight of the product.
-    Tops {
-        shape: Shape,
-        tops: Vec<(u32, Weight)>,
-    },
-    /// The images of all vertices under the crystal reflection at this index, in ascending rank of the vertices.
-    Reflection {
-        index: u8,
-        images: Vec<u32>,
-    },
-}
 
 /// What a statistic reports. The lines of the report have their ends.
 #[derive(Debug, Drop)]

@@ -4,16 +4,17 @@ ghost use Rattle.std.specs.List.{flat_map};
 ghost use Rattle.crystal_cartan.specs.Types.{HasIndex};
 ghost use Rattle.crystal_cartan.specs.Weights.{IsSmall};
 ghost use Rattle.tableau_reading.specs.Texts.{word_text};
-ghost use Rattle.canonical_graph.specs.Texts.{vertex_word};
+ghost use Rattle.canonical_graph.specs.Graphs.{vertex_word};
 ghost use Rattle.crystal_streams.specs.Lines.{ended};
 ghost use Rattle.answer_text.specs.Prints.{Prints};
 ghost use Rattle.answer_text.specs.Texts.{numbered};
 ghost use Rattle.answer_text.specs.Asks.{listed, product_text, demazure_head, member_line, demazure_text, tops_head, shape_text, top_line, tops_text, reflection_head, image_line, reflection_text};
-ghost use Rattle.answer_text.specs.Answers.{IsPrintableAsk, ask_text, asks_text};
+ghost use Rattle.ask_answers.specs.Answers.{IsPrintableAsk};
+ghost use Rattle.answer_text.specs.Answers.{ask_text, asks_text};
 
-use crate::answers::AskAnswer;
 use crate::lines::{keyed_line, line_of, print_behind_blank};
 use crate::pages::{Page, print_line};
+use ask_answers::AskAnswer;
 use canonical_graph::Finished;
 use crystal_cartan::Weight;
 use crystal_streams::{Line, Sink, WriteFault};
@@ -28,7 +29,7 @@ pub(crate) fn print_asks<W: Sink>(
     asks: &[AskAnswer],
 ) -> Result<(), WriteFault>
     requires { All (IsPrintableAsk finished.now) asks.now }
-    ensures { Prints (W.held sink.old) (W.held sink.new) (W.faults sink.old) (W.faults sink.new) page.old page.new
+    ensures { Prints (W.taken sink.old) (W.taken sink.new) (W.faults sink.old) (W.faults sink.new) page.old page.new
         (asks_text finished.now asks.now) result }
 {
     'asks: for ask in asks {
@@ -45,7 +46,7 @@ fn print_ask<W: Sink>(
     ask: &AskAnswer,
 ) -> Result<(), WriteFault>
     requires { IsPrintableAsk finished.now ask.now }
-    ensures { Prints (W.held sink.old) (W.held sink.new) (W.faults sink.old) (W.faults sink.new) page.old page.new
+    ensures { Prints (W.taken sink.old) (W.taken sink.new) (W.faults sink.old) (W.faults sink.new) page.old page.new
         (ask_text finished.now ask.now) result }
 {
     match ask {
@@ -71,7 +72,7 @@ pub(crate) fn print_demazure<W: Sink>(
     requires indices { All (HasIndex finished.now.space.cartan) indices.now }
     requires few { length indices.now ≤ 64 }
     requires ranks { All (λ rank. rank < length finished.now.codes) ranks.now }
-    ensures { Prints (W.held sink.old) (W.held sink.new) (W.faults sink.old) (W.faults sink.new) page.old page.new
+    ensures { Prints (W.taken sink.old) (W.taken sink.new) (W.faults sink.old) (W.faults sink.new) page.old page.new
         (demazure_text finished.now indices.now ranks.now) result }
 {
     let _space = finished.space();
@@ -113,7 +114,7 @@ fn print_members<W: Sink>(
     ranks: &[u32],
 ) -> Result<(), WriteFault>
     requires { All (λ rank. rank < length finished.now.codes) ranks.now }
-    ensures { Prints (W.held sink.old) (W.held sink.new) (W.faults sink.old) (W.faults sink.new) page.old page.new
+    ensures { Prints (W.taken sink.old) (W.taken sink.new) (W.faults sink.old) (W.faults sink.new) page.old page.new
         (flat_map (λ rank. ended (member_line finished.now rank)) ranks.now) result }
 {
     'members: for rank in ranks {
@@ -148,7 +149,7 @@ pub(crate) fn print_tops<W: Sink>(
 ) -> Result<(), WriteFault>
     requires ranks { All (λ top. top.0 < length finished.now.codes) tops.now }
     requires small { All (λ top. IsSmall top.1) tops.now }
-    ensures { Prints (W.held sink.old) (W.held sink.new) (W.faults sink.old) (W.faults sink.new) page.old page.new
+    ensures { Prints (W.taken sink.old) (W.taken sink.new) (W.faults sink.old) (W.faults sink.new) page.old page.new
         (tops_text finished.now shape.now tops.now) result }
 {
     print_line(sink, page, &tops_head(shape, tops.len()))?;
@@ -200,7 +201,7 @@ fn print_top_lines<W: Sink>(
     requires short { length word.now ≤ 160 }
     requires ranks { All (λ top. top.0 < length finished.now.codes) tops.now }
     requires small { All (λ top. IsSmall top.1) tops.now }
-    ensures { Prints (W.held sink.old) (W.held sink.new) (W.faults sink.old) (W.faults sink.new) page.old page.new
+    ensures { Prints (W.taken sink.old) (W.taken sink.new) (W.faults sink.old) (W.faults sink.new) page.old page.new
         (flat_map (λ top. ended (top_line finished.now word.now top.0 top.1)) tops.now) result }
 {
     'tops: for (rank, weight) in tops {
@@ -269,7 +270,7 @@ pub(crate) fn print_reflection<W: Sink>(
     images: &[u32],
 ) -> Result<(), WriteFault>
     requires { length images.now < 2 ^ 32 }
-    ensures { Prints (W.held sink.old) (W.held sink.new) (W.faults sink.old) (W.faults sink.new) page.old page.new
+    ensures { Prints (W.taken sink.old) (W.taken sink.new) (W.faults sink.old) (W.faults sink.new) page.old page.new
         (reflection_text index images.now) result }
 {
     print_line(sink, page, &reflection_head(index, images.len()))?;
@@ -290,7 +291,7 @@ fn reflection_head(index: u8, count: usize) -> Line
 /// Prints a line for each vertex and its image.
 fn print_images<W: Sink>(sink: &mut W, page: &mut Page, images: &[u32]) -> Result<(), WriteFault>
     requires { length images.now < 2 ^ 32 }
-    ensures { Prints (W.held sink.old) (W.held sink.new) (W.faults sink.old) (W.faults sink.new) page.old page.new
+    ensures { Prints (W.taken sink.old) (W.taken sink.new) (W.faults sink.old) (W.faults sink.new) page.old page.new
         (numbered (λ rank image. ended (image_line rank image)) 0 images.now) result }
 {
     'images: for place in 0..images.len() {

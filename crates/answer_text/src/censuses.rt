@@ -25,7 +25,7 @@ pub(crate) fn print_census<W: Sink>(
     codes: &Option<Codes>,
 ) -> Result<(), WriteFault>
     requires { IfSome codes.now (All (λ code. code < size (shape_space shape.now))) }
-    ensures { Prints (W.held sink.old) (W.held sink.new) (W.faults sink.old) (W.faults sink.new) page.old page.new
+    ensures { Prints (W.taken sink.old) (W.taken sink.new) (W.faults sink.old) (W.faults sink.new) page.old page.new
         (tableaux_answer shape.now codes.now) result }
 {
     print_census_head(sink, page, shape.cartan())?;
@@ -41,7 +41,7 @@ fn print_tableaux_or_full<W: Sink>(
     codes: &Option<Codes>,
 ) -> Result<(), WriteFault>
     requires { IfSome codes.now (All (λ code. code < size space.now)) }
-    ensures { Prints (W.held sink.old) (W.held sink.new) (W.faults sink.old) (W.faults sink.new) page.old page.new
+    ensures { Prints (W.taken sink.old) (W.taken sink.new) (W.faults sink.old) (W.faults sink.new) page.old page.new
         (tableaux_part space.now codes.now) result }
 {
     match codes {
@@ -59,7 +59,7 @@ pub(crate) fn print_tableaux<W: Sink>(
     codes: &[u64],
 ) -> Result<(), WriteFault>
     requires { All (λ code. code < size space.now) codes.now }
-    ensures { Prints (W.held sink.old) (W.held sink.new) (W.faults sink.old) (W.faults sink.new) page.old page.new
+    ensures { Prints (W.taken sink.old) (W.taken sink.new) (W.faults sink.old) (W.faults sink.new) page.old page.new
         (tableaux_text space.now codes.now) result }
 {
     print_line(sink, page, &keyed_line(b"tableaux ", codes.len() as u64))?;
@@ -74,7 +74,7 @@ fn print_readings<W: Sink>(
     codes: &[u64],
 ) -> Result<(), WriteFault>
     requires { All (λ code. code < size space.now) codes.now }
-    ensures { Prints (W.held sink.old) (W.held sink.new) (W.faults sink.old) (W.faults sink.new) page.old page.new
+    ensures { Prints (W.taken sink.old) (W.taken sink.new) (W.faults sink.old) (W.faults sink.new) page.old page.new
         (flat_map (λ code. ended (word_text space.now (word_of space.now code))) codes.now) result }
 {
     'codes: for code in codes {

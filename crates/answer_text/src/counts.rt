@@ -18,7 +18,7 @@ pub(crate) fn print_counts<W: Sink>(
     counts: &Option<Counts>,
 ) -> Result<(), WriteFault>
     requires { IfSome counts.now IsPrintableCounts }
-    ensures { Prints (W.held sink.old) (W.held sink.new) (W.faults sink.old) (W.faults sink.new) page.old page.new
+    ensures { Prints (W.taken sink.old) (W.taken sink.new) (W.faults sink.old) (W.faults sink.new) page.old page.new
         (ended (counts_line counts.now)) result }
 {
     match counts {

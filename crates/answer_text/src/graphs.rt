@@ -1,7 +1,6 @@
 //! A finished graph, and the statistics of its vertices.
 ghost use Rattle.std.specs.Prelude.{◌≡◌, ◌≤◌, ◌<◌, length, pos, string_bytes};
 ghost use Rattle.canonical_graph.specs.Graphs.{arrow_count};
-ghost use Rattle.canonical_graph.specs.Texts.{vertex_text};
 ghost use Rattle.crystal_streams.specs.Lines.{ended};
 ghost use Rattle.answer_text.specs.Prints.{Prints};
 ghost use Rattle.answer_text.specs.Texts.{graph_head, vertex_lines, graph_part, statistic_head, statistic_text};
@@ -10,6 +9,7 @@ ghost use Rattle.answer_text.specs.Answers.{AreShort, reports_text};
 use crate::answers::Report;
 use crate::lines::{keyed_line, line_of};
 use crate::pages::{Page, print_line, print_text};
+use crate::vertices::vertex_line;
 use canonical_graph::Finished;
 use crystal_streams::{Line, Sink, WriteFault};
 
@@ -20,7 +20,7 @@ pub(crate) fn print_graph<W: Sink>(
     page: &mut Page,
     finished: &Finished,
 ) -> Result<(), WriteFault>
-    ensures { Prints (W.held sink.old) (W.held sink.new) (W.faults sink.old) (W.faults sink.new) page.old page.new
+    ensures { Prints (W.taken sink.old) (W.taken sink.new) (W.faults sink.old) (W.faults sink.new) page.old page.new
         (graph_part finished.now) result }
 {
     print_sizes(sink, page, finished)?;
@@ -33,7 +33,7 @@ pub(crate) fn print_sizes<W: Sink>(
     page: &mut Page,
     finished: &Finished,
 ) -> Result<(), WriteFault>
-    ensures { Prints (W.held sink.old) (W.held sink.new) (W.faults sink.old) (W.faults sink.new) page.old page.new
+    ensures { Prints (W.taken sink.old) (W.taken sink.new) (W.faults sink.old) (W.faults sink.new) page.old page.new
         (ended (graph_head finished.now)) result }
 {
     print_line(sink, page, &graph_head(finished))
@@ -63,22 +63,13 @@ fn print_vertices<W: Sink>(
     page: &mut Page,
     finished: &Finished,
 ) -> Result<(), WriteFault>
-    ensures { Prints (W.held sink.old) (W.held sink.new) (W.faults sink.old) (W.faults sink.new) page.old page.new
+    ensures { Prints (W.taken sink.old) (W.taken sink.new) (W.faults sink.old) (W.faults sink.new) page.old page.new
         (vertex_lines finished.now 0 (length finished.now.codes)) result }
 {
     'ranks: for rank in 0..finished.len() {
         print_line(sink, page, &vertex_line(finished, rank))?;
     }
     Ok(())
-}
-
-fn vertex_line(finished: &Finished, rank: u32) -> Line
-    requires { rank < length finished.now.codes }
-    ensures { result ≡ vertex_text finished.now rank }
-{
-    let mut line = Line::new();
-    finished.graph_line(rank, &mut line);
-    line
 }
 
 /// Prints the reports of statistics, in their order.
@@ -88,7 +79,7 @@ pub(crate) fn print_reports<W: Sink>(
     reports: &[Report],
 ) -> Result<(), WriteFault>
     requires { AreShort reports.now }
-    ensures { Prints (W.held sink.old) (W.held sink.new) (W.faults sink.old) (W.faults sink.new) page.old page.new
+    ensures { Prints (W.taken sink.old) (W.taken sink.new) (W.faults sink.old) (W.faults sink.new) page.old page.new
         (reports_text reports.now) result }
 {
     'reports: for report in reports {
@@ -104,7 +95,7 @@ pub(crate) fn print_report<W: Sink>(
     report: &Report,
 ) -> Result<(), WriteFault>
     requires { length (string_bytes report.now.name) ≤ 64 }
-    ensures { Prints (W.held sink.old) (W.held sink.new) (W.faults sink.old) (W.faults sink.new) page.old page.new
+    ensures { Prints (W.taken sink.old) (W.taken sink.new) (W.faults sink.old) (W.faults sink.new) page.old page.new
         (statistic_text (string_bytes report.now.name) report.now.bytes.items) result }
 {
     print_line(sink, page, &statistic_head(report.name.as_bytes()))?;

@@ -16,7 +16,7 @@ pub(crate) fn print_head<W: Sink>(
     page: &mut Page,
     cartan: Cartan,
 ) -> Result<(), WriteFault>
-    ensures { Prints (W.held sink.old) (W.held sink.new) (W.faults sink.old) (W.faults sink.new) page.old page.new
+    ensures { Prints (W.taken sink.old) (W.taken sink.new) (W.faults sink.old) (W.faults sink.new) page.old page.new
         (ended (head_line cartan)) result }
 {
     print_line(sink, page, &type_line(b"crystal ", cartan))
@@ -28,7 +28,7 @@ pub(crate) fn print_census_head<W: Sink>(
     page: &mut Page,
     cartan: Cartan,
 ) -> Result<(), WriteFault>
-    ensures { Prints (W.held sink.old) (W.held sink.new) (W.faults sink.old) (W.faults sink.new) page.old page.new
+    ensures { Prints (W.taken sink.old) (W.taken sink.new) (W.faults sink.old) (W.faults sink.new) page.old page.new
         (ended (census_line cartan)) result }
 {
     print_line(sink, page, &type_line(b"census ", cartan))
@@ -54,7 +54,7 @@ fn type_line(word: &[u8], cartan: Cartan) -> Line
 
 /// Prints the line that stands in place of what is too large: `full`.
 pub(crate) fn print_full<W: Sink>(sink: &mut W, page: &mut Page) -> Result<(), WriteFault>
-    ensures { Prints (W.held sink.old) (W.held sink.new) (W.faults sink.old) (W.faults sink.new) page.old page.new
+    ensures { Prints (W.taken sink.old) (W.taken sink.new) (W.faults sink.old) (W.faults sink.new) page.old page.new
         (ended full_line) result }
 {
     print_line(sink, page, &line_of(b"full"))
@@ -62,7 +62,7 @@ pub(crate) fn print_full<W: Sink>(sink: &mut W, page: &mut Page) -> Result<(), W
 
 /// Prints the last line: `end`.
 pub(crate) fn print_end<W: Sink>(sink: &mut W, page: &mut Page) -> Result<(), WriteFault>
-    ensures { Prints (W.held sink.old) (W.held sink.new) (W.faults sink.old) (W.faults sink.new) page.old page.new
+    ensures { Prints (W.taken sink.old) (W.taken sink.new) (W.faults sink.old) (W.faults sink.new) page.old page.new
         (ended end_line) result }
 {
     print_line(sink, page, &line_of(b"end"))
@@ -74,7 +74,7 @@ pub(crate) fn print_words_refusal<W: Sink>(
     page: &mut Page,
     fault: u8,
 ) -> Result<(), WriteFault>
-    ensures { Prints (W.held sink.old) (W.held sink.new) (W.faults sink.old) (W.faults sink.new) page.old page.new
+    ensures { Prints (W.taken sink.old) (W.taken sink.new) (W.faults sink.old) (W.faults sink.new) page.old page.new
         (words_refusal fault) result }
 {
     print_line(sink, page, &keyed_line(b"refused words ", u64::from(fault)))
@@ -87,7 +87,7 @@ pub(crate) fn print_job_refusal<W: Sink>(
     line: u32,
     fault: u8,
 ) -> Result<(), WriteFault>
-    ensures { Prints (W.held sink.old) (W.held sink.new) (W.faults sink.old) (W.faults sink.new) page.old page.new
+    ensures { Prints (W.taken sink.old) (W.taken sink.new) (W.faults sink.old) (W.faults sink.new) page.old page.new
         (job_refusal line fault) result }
 {
     print_line(sink, page, &refused_job(line, fault))

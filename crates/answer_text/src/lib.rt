@@ -6,12 +6,13 @@
 //!
 //! **Where to read.** Every function that prints has one clause, `Prints` of specs/Prints.antt: what the sink took and
 //! what is left on the page are together what was on the page before and the printed text. `heads` has the first and the
-//! last line and the refusals, `sessions` the replies, `graphs` the graph and the reports of statistics, `asks` the
-//! answers to asks, `censuses` the tableaux of a census, `matches` what a comparison came to, `counts` what a growth of wide
-//! words came to, `samples` a sample job; `lines` makes short lines.
+//! last line and the refusals, `sessions` the replies, `graphs` the graph and the reports of statistics, `vertices` the line
+//! of a vertex, `asks` the answers to asks, `censuses` the tableaux of a census, `matches` what a comparison came to, `counts`
+//! what a growth of wide words came to, `samples` a sample job; `lines` makes short lines. The text of the answers to asks is
+//! determined by the graph, the first start and the asks (`laws`).
 //!
-//! **Stands on** canonical_graph and session_desk for the text of a vertex and of a reply, tableau_reading for words and
-//! weights, crystal_match for verdicts, crystal_streams for lines and sinks.
+//! **Stands on** canonical_graph for graphs, session_desk for the text of a reply, ask_answers for the answers to asks,
+//! tableau_reading for words and weights, crystal_match for verdicts, crystal_streams for lines and sinks.
 #![tactic(auto)]
 
 mod answers;
@@ -20,13 +21,17 @@ mod censuses;
 mod counts;
 mod graphs;
 mod heads;
+mod laws;
 mod lines;
 mod matches;
 mod pages;
 mod printing;
 mod samples;
 mod sessions;
+mod vertices;
 
-pub use answers::{Answer, AskAnswer, Counts, Report, Whole};
+pub use answers::{Answer, Counts, Report, Whole};
+pub use laws::answers_are_one;
 pub use pages::Page;
 pub use printing::print_answer;
+pub use vertices::vertex_line;

@@ -21,7 +21,7 @@ pub(crate) fn print_verdict<W: Sink>(
     verdict: &Option<Verdict>,
 ) -> Result<(), WriteFault>
     requires { IfSome verdict.now IsPrintableVerdict }
-    ensures { Prints (W.held sink.old) (W.held sink.new) (W.faults sink.old) (W.faults sink.new) page.old page.new
+    ensures { Prints (W.taken sink.old) (W.taken sink.new) (W.faults sink.old) (W.faults sink.new) page.old page.new
         (ended (verdict_line verdict.now)) result }
 {
     match verdict {
@@ -43,7 +43,7 @@ pub(crate) fn print_differs<W: Sink>(
     page: &mut Page,
     walk: &[Arrow],
 ) -> Result<(), WriteFault>
-    ensures { Prints (W.held sink.old) (W.held sink.new) (W.faults sink.old) (W.faults sink.new) page.old page.new
+    ensures { Prints (W.taken sink.old) (W.taken sink.new) (W.faults sink.old) (W.faults sink.new) page.old page.new
         (ended (differs_line walk.now)) result }
 {
     print_piece(sink, page, &line_of(b"differs"))?;
@@ -53,7 +53,7 @@ pub(crate) fn print_differs<W: Sink>(
 
 /// Prints arrows, each with a blank in front of it.
 fn print_arrows<W: Sink>(sink: &mut W, page: &mut Page, walk: &[Arrow]) -> Result<(), WriteFault>
-    ensures { Prints (W.held sink.old) (W.held sink.new) (W.faults sink.old) (W.faults sink.new) page.old page.new
+    ensures { Prints (W.taken sink.old) (W.taken sink.new) (W.faults sink.old) (W.faults sink.new) page.old page.new
         (arrow_tokens walk.now) result }
 {
     'arrows: for arrow in walk {

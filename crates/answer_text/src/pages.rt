@@ -70,7 +70,7 @@ impl Page {
 
 /// Hands the page on.
 pub(crate) fn hand_on<W: Sink>(sink: &mut W, page: &mut Page) -> Result<(), WriteFault>
-    ensures prints { Prints (W.held sink.old) (W.held sink.new) (W.faults sink.old) (W.faults sink.new) page.old page.new
+    ensures prints { Prints (W.taken sink.old) (W.taken sink.new) (W.faults sink.old) (W.faults sink.new) page.old page.new
         [] result }
     ensures empty { page.new ≡ [] }
 {
@@ -81,7 +81,7 @@ pub(crate) fn hand_on<W: Sink>(sink: &mut W, page: &mut Page) -> Result<(), Writ
 
 /// Hands the page on where it has no room for a further line.
 fn make_room<W: Sink>(sink: &mut W, page: &mut Page) -> Result<(), WriteFault>
-    ensures prints { Prints (W.held sink.old) (W.held sink.new) (W.faults sink.old) (W.faults sink.new) page.old page.new
+    ensures prints { Prints (W.taken sink.old) (W.taken sink.new) (W.faults sink.old) (W.faults sink.new) page.old page.new
         [] result }
     ensures room { OnOk result (length page.new + 513 ≤ 65536) }
 {
@@ -97,7 +97,7 @@ pub(crate) fn print_line<W: Sink>(
     page: &mut Page,
     line: &Line,
 ) -> Result<(), WriteFault>
-    ensures { Prints (W.held sink.old) (W.held sink.new) (W.faults sink.old) (W.faults sink.new) page.old page.new
+    ensures { Prints (W.taken sink.old) (W.taken sink.new) (W.faults sink.old) (W.faults sink.new) page.old page.new
         (ended line.now) result }
 {
     make_room(sink, page)?;
@@ -112,7 +112,7 @@ pub(crate) fn print_piece<W: Sink>(
     page: &mut Page,
     piece: &Line,
 ) -> Result<(), WriteFault>
-    ensures { Prints (W.held sink.old) (W.held sink.new) (W.faults sink.old) (W.faults sink.new) page.old page.new
+    ensures { Prints (W.taken sink.old) (W.taken sink.new) (W.faults sink.old) (W.faults sink.new) page.old page.new
         piece.now result }
 {
     make_room(sink, page)?;
@@ -126,7 +126,7 @@ pub(crate) fn print_text<W: Sink>(
     page: &mut Page,
     text: &[u8],
 ) -> Result<(), WriteFault>
-    ensures { Prints (W.held sink.old) (W.held sink.new) (W.faults sink.old) (W.faults sink.new) page.old page.new
+    ensures { Prints (W.taken sink.old) (W.taken sink.new) (W.faults sink.old) (W.faults sink.new) page.old page.new
         text.now result }
 {
     hand_on(sink, page)?;

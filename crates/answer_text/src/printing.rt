@@ -26,7 +26,7 @@ use tensor_words::Space;
 pub fn print_answer<W: Sink>(sink: &mut W, page: Page, answer: &Answer) -> Result<(), WriteFault>
     requires empty { page ≡ [] }
     requires printable { IsPrintableAnswer answer.now }
-    ensures { Writes (W.held sink.old) (W.held sink.new) (W.faults sink.old) (W.faults sink.new)
+    ensures { Writes (W.taken sink.old) (W.taken sink.new) (W.faults sink.old) (W.faults sink.new)
         (answer_bytes answer.now) result }
 {
     let mut page = page;
@@ -37,7 +37,7 @@ pub fn print_answer<W: Sink>(sink: &mut W, page: Page, answer: &Answer) -> Resul
 /// Prints an answer, the end of which may stay on the page.
 fn print_parts<W: Sink>(sink: &mut W, page: &mut Page, answer: &Answer) -> Result<(), WriteFault>
     requires { IsPrintableAnswer answer.now }
-    ensures { Prints (W.held sink.old) (W.held sink.new) (W.faults sink.old) (W.faults sink.new) page.old page.new
+    ensures { Prints (W.taken sink.old) (W.taken sink.new) (W.faults sink.old) (W.faults sink.new) page.old page.new
         (answer_bytes answer.now) result }
 {
     match answer {
@@ -71,7 +71,7 @@ fn print_crystal<W: Sink>(
     requires told { ArePrintable space.now told.now }
     requires graph { IfSome graph.now IsPrintableWhole }
     requires space { IfSome graph.now (λ whole. whole.finished.space ≡ space.now) }
-    ensures { Prints (W.held sink.old) (W.held sink.new) (W.faults sink.old) (W.faults sink.new) page.old page.new
+    ensures { Prints (W.taken sink.old) (W.taken sink.new) (W.faults sink.old) (W.faults sink.new) page.old page.new
         (crystal_text space.now told.now graph.now) result }
 {
     print_head(sink, page, space.cartan())?;
@@ -87,7 +87,7 @@ fn print_whole_or_full<W: Sink>(
     graph: &Option<Whole>,
 ) -> Result<(), WriteFault>
     requires { IfSome graph.now IsPrintableWhole }
-    ensures { Prints (W.held sink.old) (W.held sink.new) (W.faults sink.old) (W.faults sink.new) page.old page.new
+    ensures { Prints (W.taken sink.old) (W.taken sink.new) (W.faults sink.old) (W.faults sink.new) page.old page.new
         (crystal_part graph.now) result }
 {
     match graph {
@@ -99,7 +99,7 @@ fn print_whole_or_full<W: Sink>(
 /// Prints a graph, the reports of its statistics and the answers to the asks about it.
 fn print_whole<W: Sink>(sink: &mut W, page: &mut Page, whole: &Whole) -> Result<(), WriteFault>
     requires { IsPrintableWhole whole.now }
-    ensures { Prints (W.held sink.old) (W.held sink.new) (W.faults sink.old) (W.faults sink.new) page.old page.new
+    ensures { Prints (W.taken sink.old) (W.taken sink.new) (W.faults sink.old) (W.faults sink.new) page.old page.new
         (whole_part whole.now) result }
 {
     print_graph(sink, page, &whole.finished)?;
@@ -117,7 +117,7 @@ fn print_comparison<W: Sink>(
     verdict: &Option<Verdict>,
 ) -> Result<(), WriteFault>
     requires { IfSome verdict.now IsPrintableVerdict }
-    ensures { Prints (W.held sink.old) (W.held sink.new) (W.faults sink.old) (W.faults sink.new) page.old page.new
+    ensures { Prints (W.taken sink.old) (W.taken sink.new) (W.faults sink.old) (W.faults sink.new) page.old page.new
         (match_text cartan (verdict_line verdict.now)) result }
 {
     print_head(sink, page, cartan)?;
@@ -133,7 +133,7 @@ fn print_wide<W: Sink>(
     counts: &Option<Counts>,
 ) -> Result<(), WriteFault>
     requires { IfSome counts.now IsPrintableCounts }
-    ensures { Prints (W.held sink.old) (W.held sink.new) (W.faults sink.old) (W.faults sink.new) page.old page.new
+    ensures { Prints (W.taken sink.old) (W.taken sink.new) (W.faults sink.old) (W.faults sink.new) page.old page.new
         (wide_text cartan (counts_line counts.now)) result }
 {
     print_head(sink, page, cartan)?;

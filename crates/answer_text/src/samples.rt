@@ -21,7 +21,7 @@ pub(crate) fn print_sample<W: Sink>(
     commands: u32,
     graph: &Option<Finished>,
 ) -> Result<(), WriteFault>
-    ensures { Prints (W.held sink.old) (W.held sink.new) (W.faults sink.old) (W.faults sink.new) page.old page.new
+    ensures { Prints (W.taken sink.old) (W.taken sink.new) (W.faults sink.old) (W.faults sink.new) page.old page.new
         (sample_answer number cartan sessions commands (sizes_line graph.now)) result }
 {
     print_line(sink, page, &keyed_line(b"sample ", u64::from(number)))?;
@@ -38,7 +38,7 @@ fn print_sizes_or_full<W: Sink>(
     page: &mut Page,
     graph: &Option<Finished>,
 ) -> Result<(), WriteFault>
-    ensures { Prints (W.held sink.old) (W.held sink.new) (W.faults sink.old) (W.faults sink.new) page.old page.new
+    ensures { Prints (W.taken sink.old) (W.taken sink.new) (W.faults sink.old) (W.faults sink.new) page.old page.new
         (ended (sizes_line graph.now)) result }
 {
     match graph {

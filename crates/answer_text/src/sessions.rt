@@ -8,7 +8,7 @@ ghost use Rattle.answer_text.specs.Answers.{ArePrintable};
 use crate::lines::keyed_line;
 use crate::pages::{Page, print_line};
 use crystal_streams::{Line, Sink, WriteFault};
-use session_desk::{Replies, Reply, reply_line};
+use session_desk::{Replies, Reply};
 use tensor_words::Space;
 
 /// Prints the sessions one after another, numbered from 1.
@@ -19,7 +19,7 @@ pub(crate) fn print_sessions<W: Sink>(
     told: &[Replies],
 ) -> Result<(), WriteFault>
     requires { ArePrintable space.now told.now }
-    ensures { Prints (W.held sink.old) (W.held sink.new) (W.faults sink.old) (W.faults sink.new) page.old page.new
+    ensures { Prints (W.taken sink.old) (W.taken sink.new) (W.faults sink.old) (W.faults sink.new) page.old page.new
         (sessions_text space.now told.now) result }
 {
     'sessions: for place in 0..told.len() {
@@ -37,7 +37,7 @@ pub(crate) fn print_session<W: Sink>(
     replies: &[Reply],
 ) -> Result<(), WriteFault>
     requires { All (IsPrintable space.now) replies.now }
-    ensures { Prints (W.held sink.old) (W.held sink.new) (W.faults sink.old) (W.faults sink.new) page.old page.new
+    ensures { Prints (W.taken sink.old) (W.taken sink.new) (W.faults sink.old) (W.faults sink.new) page.old page.new
         (session_text space.now number replies.now) result }
 {
     print_line(sink, page, &keyed_line(b"session ", u64::from(number)))?;
@@ -52,21 +52,21 @@ fn print_replies<W: Sink>(
     replies: &[Reply],
 ) -> Result<(), WriteFault>
     requires { All (IsPrintable space.now) replies.now }
-    ensures { Prints (W.held sink.old) (W.held sink.new) (W.faults sink.old) (W.faults sink.new) page.old page.new
+    ensures { Prints (W.taken sink.old) (W.taken sink.new) (W.faults sink.old) (W.faults sink.new) page.old page.new
         (reply_lines space.now replies.now) result }
 {
     'replies: for reply in replies {
-        print_line(sink, page, &told(space, reply))?;
+        print_line(sink, page, &reply_line(space, reply))?;
     }
     Ok(())
 }
 
 /// The line of a reply.
-fn told(space: &Space, reply: &Reply) -> Line
+fn reply_line(space: &Space, reply: &Reply) -> Line
     requires { IsPrintable space.now reply.now }
     ensures { result ≡ reply_text space.now reply.now }
 {
     let mut line = Line::new();
-    reply_line(space, reply, &mut line);
+    session_desk::reply_line(space, reply, &mut line);
     line
 }

@@ -7,13 +7,12 @@ use Rattle.std.proofs.lemmas.Option.{slice_get_within, get_or_from_slice_get}
 use Rattle.crystal_cartan.specs.Types.{HasIndex}
 use Rattle.tableau_reading.specs.Shapes.{shape_weight}
 use Rattle.canonical_graph.specs.Graphs.{FinishedType, IsFinished}
-use Rattle.answer_text.specs.Answers.{IsPrintableAsk}
-use Rattle.answer_text.specs.declared.answers.AskAnswer.{AskAnswer}
-use Rattle.answer_text.specs.declared.answers.AskAnswer.TheVariants as answer
+use Rattle.ask_answers.specs.declared.values.AskAnswer.{AskAnswer}
+use Rattle.ask_answers.specs.declared.values.AskAnswer.TheVariants as answer
 use Rattle.job_text.specs.Jobs.{IsAsk}
 use Rattle.job_text.specs.declared.commands.Ask.{Ask}
 use Rattle.job_text.specs.declared.commands.Ask.TheVariants.{Demazure, Tops, Reflect}
-use Rattle.ask_answers.specs.Answers.{IsAskAnswer, AreAnswers}
+use Rattle.ask_answers.specs.Answers.{IsAskAnswer, AreAnswers, IsPrintableAsk}
 use Rattle.ask_answers.proofs.OverCodes.{subset_below}
 use Rattle.ask_answers.proofs.ShapeWeights.{small_sums, ranks_below}
 

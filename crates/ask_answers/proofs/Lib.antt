@@ -1,5 +1,4 @@
 pub mod WordBounds
 pub mod ShapeWeights
 pub mod AskedAnswers
-pub mod OneAnswer
 pub mod OverCodes

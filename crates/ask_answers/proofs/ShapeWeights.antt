@@ -8,7 +8,6 @@ use Rattle.crystal_cartan.specs.Types.{HasIndex}
 use Rattle.crystal_cartan.specs.Weights.{twice_pairing, IsPairing, IsDominant, IsSmall, sum_of}
 use Rattle.tensor_words.specs.Spaces.{IsSpace, IsWithin, word_weight}
 use Rattle.tensor_words.specs.TensorRule.{action}
-use Rattle.tensor_words.proofs.Sums.{small_within}
 use Rattle.tensor_words.proofs.KeptWords.{factors_of_space}
 use Rattle.tensor_words.proofs.WordWeights.{seminormal_word}
 use Rattle.tableau_reading.specs.Shapes.{ShapeType, IsShape, shape_space, shape_weight}
@@ -16,11 +15,11 @@ use Rattle.tableau_reading.specs.Readings.{top_word}
 use Rattle.tableau_reading.proofs.VectorSpaces.{shape_is_space}
 use Rattle.tableau_reading.proofs.HighestTops.{top_is_word, top_is_highest}
 use Rattle.tableau_reading.proofs.TopWeights.{top_has_weight}
-use Rattle.canonical_graph.specs.Graphs.{FinishedType, IsFinished}
-use Rattle.canonical_graph.specs.Texts.{vertex_word}
+use Rattle.canonical_graph.specs.Graphs.{FinishedType, IsFinished, vertex_word}
 use Rattle.crystal_subsets.specs.ProductTops.{is_top_beside, top_entry, top_ranks, tops_beside}
 use Rattle.crystal_subsets.proofs.TensorTops.{word_pairings}
 use Rattle.ask_answers.proofs.WordBounds.{bounded_sum, bounded_word}
+use Rattle.crystal_cartan.proofs.Bounds.{small_from_within}
 
 -- the weight of a shape has whole pairings
 pub shape_pairings : (s : ShapeType) → IsShape s → (i : ℕ) → HasIndex s.cartan i → (p : ℤ) × IsPairing s.cartan (shape_weight s) i p
@@ -50,7 +49,7 @@ small_sum : (f : FinishedType) (s : ShapeType) (rank : ℕ) → IsFinished f →
 small_sum f s rank finished h =
     let own : All (IsWithin 80) (word_weight f.space (vertex_word f rank)) =
     at_most_eighty (length f.space.factors) _ finished.space.few (bounded_word f.space (vertex_word f rank)) in
-    small_within 160 (sum_of (word_weight f.space (vertex_word f rank)) (shape_weight s)) (omega arith)
+    small_from_within 160 (sum_of (word_weight f.space (vertex_word f rank)) (shape_weight s)) (omega arith)
     (bounded_sum 80 80 (word_weight f.space (vertex_word f rank)) (shape_weight s) own (bounded_shape s h))
 
 -- the sums that go with the tops beside it are small

@@ -1,20 +1,19 @@
 -- How large the coordinates of weights of words are.
 use Rattle.std.proofs.Common.{◌≡◌, subst, ℕ, ◌+◌, ◌-◌, ◌*◌, Bool, true, false, if◌then◌else◌, List, [], ◌∷◌, length, get_or, inl, inr, ℤ, pos, negsuc, ◌+ℤ◌, All, arith}
-use Rattle.std.specs.Ordering.{int_eq}
 use Rattle.std.proofs.lemmas.Bool.{cases_lt}
 use Rattle.std.proofs.lemmas.Int.{ints}
 use Rattle.std.proofs.lemmas.List.{get_or_past}
+use Rattle.vector_crystals.proofs.Seminormal.{weight-small}
 use Rattle.crystal_cartan.specs.Types.{CartanType, coordinates}
 use Rattle.crystal_cartan.specs.Weights.{coordinate, zero_weight, sum_of}
-use Rattle.vector_crystals.specs.Letters.{barred, letter_at}
-use Rattle.vector_crystals.specs.VectorCrystals.{letter_weight}
+use Rattle.vector_crystals.specs.Letters.{letter_at}
 use Rattle.spin_crystals.specs.Signs.{signs_at}
 use Rattle.spin_crystals.specs.SpinCrystals.{sign_coordinate, signs_weight}
 use Rattle.spin_crystals.specs.declared.signs.Half.TheVariants.{Whole, Plus, Minus}
 use Rattle.tensor_words.specs.declared.spaces.Factor.{Factor}
 use Rattle.tensor_words.specs.declared.spaces.Factor.TheVariants.{Vector, Spin, SpinPlus, SpinMinus}
 use Rattle.tensor_words.specs.Spaces.{SpaceType, IsWithin, base_weight, weight_along, word_weight}
-use Rattle.tensor_words.proofs.Sums.{All-weight_from}
+use Rattle.crystal_cartan.proofs.Bounds.{All-weight_from}
 
 bounded_at : (n : ℕ) (w : List ℤ) (j : ℕ) → All (IsWithin n) w → IsWithin n (coordinate w j)
 bounded_at n w j all = elim (cases_lt (j - 1) (length w)) [
@@ -33,17 +32,6 @@ bounded_zero : (t : CartanType) (n : ℕ) → All (IsWithin n) (zero_weight t)
 bounded_zero t n = All-weight_from (IsWithin n) (coordinates t) (λ j. pos 0) (λ j low high. (omega (arith, ints), omega (arith, ints)))
 
 -- a doubled coordinate of the weight of an element of a factor is at most 2
-bounded_letter : (t : CartanType) (x : ℤ) → All (IsWithin 2) (letter_weight t x)
-unfolding letter_weight
-bounded_letter t x =
-    All-weight_from (IsWithin 2) (coordinates t) (λ j. if int_eq x (pos j) then pos 2 else if int_eq x (barred j) then negsuc 1 else pos 0)
-    (λ j low high. one_of (int_eq x (pos j)) (int_eq x (barred j)))
-  where
-    one_of : (a b : Bool) → IsWithin 2 (if a then pos 2 else if b then negsuc 1 else pos 0)
-    one_of true b = (omega (arith, ints), omega (arith, ints))
-    one_of false true = (omega (arith, ints), omega (arith, ints))
-    one_of false false = (omega (arith, ints), omega (arith, ints))
-
 bounded_signs : (t : CartanType) (v : List Bool) → All (IsWithin 2) (signs_weight t v)
 unfolding signs_weight
 bounded_signs t v = All-weight_from (IsWithin 2) t.rank (sign_coordinate v) (λ j low high. one_of (get_or v (j - 1) false))
@@ -54,7 +42,7 @@ bounded_signs t v = All-weight_from (IsWithin 2) t.rank (sign_coordinate v) (λ 
 
 bounded_base : (t : CartanType) (f : Factor) (d : ℕ) → All (IsWithin 2) (base_weight t f d)
 unfolding base_weight
-bounded_base t Vector d = bounded_letter t (letter_at t d)
+bounded_base t Vector d = weight-small t (letter_at t d)
 bounded_base t Spin d = bounded_signs t (signs_at Whole t.rank d)
 bounded_base t SpinPlus d = bounded_signs t (signs_at Plus t.rank d)
 bounded_base t SpinMinus d = bounded_signs t (signs_at Minus t.rank d)

@@ -1,15 +1,16 @@
 -- The answers to the asks of a job, as values.
-use Rattle.std.specs.Prelude.{ℕ, ◌<◌, ◌≡◌, ◌↔◌, List, length, slice_index, Some, Contains}
+use Rattle.std.specs.Prelude.{ℕ, ◌^◌, ◌<◌, ◌≤◌, ◌≡◌, ◌↔◌, List, length, slice_index, Some, All, Contains}
 use Rattle.std.specs.List.{AllZip}
 use Rattle.std.specs.List.Sorted.{IsStrictlyIncreasing}
+use Rattle.crystal_cartan.specs.Types.{HasIndex}
+use Rattle.crystal_cartan.specs.Weights.{IsSmall}
 use Rattle.tableau_reading.specs.Shapes.{shape_weight}
 use Rattle.canonical_graph.specs.Graphs.{FinishedType, code_at}
 use Rattle.crystal_subsets.specs.DemazureSubsets.{Demazure as DemazureSubset}
 use Rattle.crystal_subsets.specs.ProductTops.{tops_beside}
 use Rattle.crystal_characters.specs.Reflections.{reflection_rank}
-use Rattle.answer_text.specs.Answers.{asks_text}
-use Rattle.answer_text.specs.declared.answers.AskAnswer.{AskAnswer}
-use Rattle.answer_text.specs.declared.answers.AskAnswer.TheVariants as answer
+use Rattle.ask_answers.specs.declared.values.AskAnswer.{AskAnswer}
+use Rattle.ask_answers.specs.declared.values.AskAnswer.TheVariants as answer
 use Rattle.job_text.specs.declared.commands.Ask.{Ask}
 use Rattle.job_text.specs.declared.commands.Ask.TheVariants.{Demazure, Tops, Reflect}
 
@@ -34,10 +35,9 @@ IsAskAnswer f b ask other = ⊥
 abbrev pub AreAnswers : FinishedType → ℕ → List Ask → List AskAnswer → Type 0
 AreAnswers f b asks answers = AllZip (IsAskAnswer f b) asks answers
 
--- laws
-
--- the text of the answers is determined by the graph, the first start and the asks
-abbrev pub AnswersAreOne : Type 0
-AnswersAreOne =
-    (f : FinishedType) (b : ℕ) (asks : List Ask) (answers others : List AskAnswer) → AreAnswers f b asks answers → AreAnswers f b asks others
-    → asks_text f answers ≡ asks_text f others
+-- an answer to an ask can be printed: its indices, ranks and weights are those of the graph
+abbrev pub IsPrintableAsk : FinishedType → AskAnswer → Type 0
+IsPrintableAsk f (answer.Demazure indices ranks) =
+    All (HasIndex f.space.cartan) indices.items × (length indices.items ≤ 64) × All (λ rank. rank < length f.codes) ranks.items
+IsPrintableAsk f (answer.Tops shape tops) = All (λ top. top.0 < length f.codes) tops.items × All (λ top. IsSmall top.1) tops.items
+IsPrintableAsk f (answer.Reflection index images) = length images.items < 2 ^ 32

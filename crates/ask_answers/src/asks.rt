@@ -1,13 +1,12 @@
 //! Answers to the asks of a job.
 ghost use Rattle.std.specs.Prelude.{All, Contains, IfOk};
 ghost use Rattle.job_text.specs.Jobs.{IsAsk};
-ghost use Rattle.answer_text.specs.Answers.{IsPrintableAsk};
-ghost use Rattle.ask_answers.specs.Answers.{IsAskAnswer, AreAnswers};
+ghost use Rattle.ask_answers.specs.Answers.{IsAskAnswer, AreAnswers, IsPrintableAsk};
 
 use crate::reflections::images;
 use crate::subsets::{listed, subset};
 use crate::tops::tops_beside_shape;
-use answer_text::AskAnswer;
+use crate::values::AskAnswer;
 use canonical_graph::Finished;
 use crystal_streams::NoMemory;
 use job_text::{Ask, Asks};

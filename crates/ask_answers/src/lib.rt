@@ -2,20 +2,19 @@
 //! products with the crystal of a shape, and crystal reflections.
 //!
 //! **Promises.** `answers` (`asks`, the module to read first) gives the answers in the order of the asks, each as
-//! specs/Answers.antt says, and all of them can be printed; their text is determined by the graph, the first start and
-//! the asks (`laws`).
+//! specs/Answers.antt says, and all of them can be printed.
 //!
 //! **Definitions** are those of Bump and Schilling, Crystal Bases (2017).
 //!
-//! **Stands on** crystal_subsets and crystal_characters, which compute the answers (`subsets`, `tops`, `reflections`),
-//! on job_text for the asks, and on answer_text for the type of answers and their texts.
+//! **Stands on** crystal_subsets and crystal_characters, which compute the answers (`subsets`, `tops`, `reflections`), and on
+//! job_text for the asks. `values` has the type of answers; answer_text prints them.
 #![tactic(auto)]
 
 mod asks;
-mod laws;
 mod reflections;
 mod subsets;
 mod tops;
+mod values;
 
 pub use asks::answers;
-pub use laws::answers_are_one;
+pub use values::AskAnswer;

@@ -1,11 +1,4 @@
-pub mod Adding
 pub mod Ranks
 pub mod Rows
-pub mod Expanding
-pub mod Growing
-pub mod Spacing
-pub mod Noting
-pub mod Scattering
 pub mod Turned
 pub mod Raising
-pub mod Marking

@@ -13,8 +13,8 @@ use Rattle.tensor_words.proofs.Strings.{arrows_lead_back}
 use Rattle.canonical_graph.specs.Graphs.{FinishedType, IsFinished, code_at, rank_in, target_rank, arrow_count}
 use Rattle.canonical_graph.specs.Tables.{entry_of, entry_at, arrow_to, IsTable, AreLowered, KeepsTables}
 use Rattle.canonical_graph.specs.Turning.{AreArrows, LeadsBack, AreTurned}
-use Rattle.canonical_graph.proofs.Ranks.{place_of_rank, rank_of_code, target_below}
-use Rattle.canonical_graph.proofs.Rows.{in_row}
+use Rattle.canonical_graph.proofs.Ranks.{code_below, place_of_rank, rank_of_code, target_below}
+use Rattle.list_facts.proofs.Numbers.{in_row}
 
 -- on codes the two operators of an index undo each other
 pub raised_from_lowered : (s : SpaceType) (i c d : ℕ) → IsSpace s → HasIndex s.cartan i → c < size s → op s (arrow_to true i) c ≡ Some d → op s (arrow_to false i) d ≡ Some c
@@ -26,9 +26,6 @@ lowered_from_raised : (s : SpaceType) (i c d : ℕ) → IsSpace s → HasIndex s
 lowered_from_raised s i c d space index lt is =
     let fits : IsArrow s (arrow_to false i) = record { index = index } in
     (arrows_lead_back s (arrow_to false i) c d (factors_of_space s space) fits lt (op_below s (arrow_to false i) c d space fits lt is)).0 is
-
-code_below : (f : FinishedType) (rank : ℕ) → IsFinished f → rank < length f.codes → code_at f rank < size f.space
-code_below f rank finished lt = finished.below rank 0 lt
 
 -- the operator on the codes, from the target, and the target from the operator
 target_leads : (f : FinishedType) (rank t : ℕ) (a : Arrow) → target_rank f rank a ≡ Some t → op f.space a (code_at f rank) ≡ Some (code_at f t)

@@ -12,6 +12,7 @@ use Rattle.std.proofs.lemmas.List.Quantifiers.{position-Some}
 use Rattle.std.proofs.lemmas.List.Sorted.{searched}
 use Rattle.std.proofs.lemmas.List.Sums.{position_or_len_is}
 use Rattle.crystal_cartan.specs.declared.types.Arrow.{Arrow}
+use Rattle.tensor_words.specs.Spaces.{size}
 use Rattle.tensor_words.specs.Operators.{IsArrow, op}
 use Rattle.canonical_graph.specs.Graphs.{FinishedType, IsFinished, code_at, rank_in, target_rank}
 
@@ -63,6 +64,9 @@ missing_rank xs x i up is =
 -- the code of a vertex is listed
 pub listed_code : (f : FinishedType) (rank : ℕ) → rank < length f.codes → Contains f.codes (code_at f rank)
 listed_code f rank lt = Contains-get_or f.codes rank 0 lt
+
+pub code_below : (f : FinishedType) (rank : ℕ) → IsFinished f → rank < length f.codes → code_at f rank < size f.space
+code_below f rank finished lt = finished.below rank 0 lt
 
 -- the rank of a vertex's code is the vertex's rank
 pub rank_of_code : (f : FinishedType) (rank : ℕ) → IsFinished f → rank < length f.codes → rank_in f.codes (code_at f rank) ≡ Some rank

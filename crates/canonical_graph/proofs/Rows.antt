@@ -1,22 +1,19 @@
 -- The tables of arrows.
-use Rattle.std.proofs.Common.{◌≡◌, ◌∙◌, refl, ap, ℕ, ◌+◌, ◌-◌, ◌*◌, ◌<◌, ◌≤◌, inl, inr, Bool, true, false, if◌then◌else◌, List, [], ◌∷◌, ◌++◌, length, map, get_or, Option, None, Some, is_some, append_assoc, arith}
+use Rattle.std.proofs.Common.{◌≡◌, ◌∙◌, refl, ap, subst, ℕ, ◌+◌, ◌-◌, ◌*◌, ◌<◌, ◌≤◌, inl, inr, Bool, true, false, if◌then◌else◌, List, [], ◌∷◌, ◌++◌, length, map, get_or, Option, None, Some, is_some, append_assoc, arith}
 use Rattle.std.specs.List.{range_with_len, sum_by, count_by}
-use Rattle.std.proofs.Math.Nat.{mul-le-mul_right}
 use Rattle.std.proofs.lemmas.Bool.{cases_lt}
-use Rattle.std.proofs.lemmas.List.{get_or_append_left, get_or-append_right, length-append}
+use Rattle.std.proofs.lemmas.List.{map-id, get_or_append_left, get_or-append_right, length-append}
 use Rattle.std.proofs.lemmas.List.FromFn.{length-map-range_with_len, get_or-map-range_with_len, map-range_with_len_more, sum_by-map-range_with_len_more}
+use Rattle.list_facts.proofs.Numbers.{in_row}
 use Rattle.crystal_cartan.specs.Types.{HasIndex}
 use Rattle.crystal_cartan.specs.declared.types.Arrow.{Arrow}
-use Rattle.std.specs.Option.{option_and_then}
-use Rattle.tensor_words.specs.Operators.{IsArrow, op}
+use Rattle.std.specs.Option.{option_and_then, option_map}
+use Rattle.tensor_words.specs.Spaces.{SpaceType}
+use Rattle.tensor_words.specs.Codes.{code_of, word_of}
+use Rattle.tensor_words.specs.Operators.{IsArrow, acted, op}
 use Rattle.canonical_graph.specs.Graphs.{FinishedType, IsFinished, code_at, rank_in, target_rank, lowering, arrows_from}
 use Rattle.canonical_graph.specs.Tables.{entry_of, entry_at, arrow_to, rank_row, HasRows, AreLowered, KeepsTables}
 use Rattle.canonical_graph.proofs.Ranks.{target_below}
-
-pub in_row : (rank n r j : ℕ) → rank < n → j < r → rank * r + j < n * r
-in_row rank n r j low within =
-    let rows : (rank + 1) * r ≤ n * r = mul-le-mul_right r (omega arith) in
-    omega (arith, rows)
 
 pub no_rows : {X : Type 0} (d : X) (at : ℕ → ℕ → X) (r : ℕ) → HasRows d at r 0 []
 no_rows d at r = record { size = omega arith; rows = λ k i below low high. absurd (omega arith) }
@@ -53,14 +50,10 @@ more_entries at n j old xs new index before is =
     let more = map-range_with_len_more at 1 n j index in
     rw (is, before, more) (simp append_assoc)
 
-map_same : (xs : List ℕ) → map (λ x. x) xs ≡ xs
-map_same [] = refl
-map_same (x ∷ xs) = ap (λ ys. x ∷ ys) (map_same xs)
-
 sum_more : (g : ℕ → ℕ) (a n j : ℕ) → a + n ≡ j → sum_by g (range_with_len a (n + 1)) ≡ sum_by g (range_with_len a n) + g j
 sum_more g a n j index =
     let more = sum_by-map-range_with_len_more g (λ x. x) a n j index in
-    rw (map_same (range_with_len a (n + 1)), map_same (range_with_len a n)) at more
+    rw (map-id (range_with_len a (n + 1)), map-id (range_with_len a n)) at more
 
 pub more_counted : (p : ℕ → Bool) (n j : ℕ) → 1 + n ≡ j → count_by p (range_with_len 1 (n + 1)) ≡ count_by p (range_with_len 1 n) + (if p j then 1 else 0)
 more_counted p n j index = sum_more (λ i. if p i then 1 else 0) 1 n j index
@@ -112,6 +105,18 @@ one_at_most false = omega arith
 pub entry_read : (f : FinishedType) (low high : List ℕ) (arrows rank t r : ℕ) (a : Arrow) → KeepsTables f low high arrows → rank < length f.codes
     → IsArrow f.space a → r ≡ f.space.cartan.rank → t ≡ get_or (if a.down then low else high) (rank * r + (a.index - 1)) 0 → t ≡ entry_of (target_rank f rank a)
 entry_read f low high arrows rank t r a kept lt fits width read = rw width at read ∙ entry_in f low high arrows rank a kept lt fits
+
+-- the same, read through the view of a graph
+pub entry_seen : (g f : FinishedType) (low high : List ℕ) (arrows rank t r : ℕ) (a : Arrow) → KeepsTables g low high arrows → g ≡ f → rank < length f.codes
+    → IsArrow f.space a → r ≡ g.space.cartan.rank → t ≡ get_or (if a.down then low else high) (rank * r + (a.index - 1)) 0 → t ≡ entry_of (target_rank f rank a)
+entry_seen g f low high arrows rank t r a kept same lt fits width read =
+    entry_read f low high arrows rank t r a (subst (λ (h : FinishedType). KeepsTables h low high arrows) same kept) lt fits
+    (width ∙ ap (λ (h : FinishedType). h.space.cartan.rank) same) read
+
+-- an operator on a code, by its word
+pub op_at : (s : SpaceType) (a : Arrow) (code : ℕ) (w : List ℕ) → w ≡ word_of s code → option_map (code_of s) (acted s a w) ≡ op s a code
+unfolding op
+op_at s a code w is = rw is refl
 
 -- the target, from what the operator gives
 pub target_is : (f : FinishedType) (rank : ℕ) (a : Arrow) (o t : Option ℕ) → o ≡ op f.space a (code_at f rank) → t ≡ option_and_then (rank_in f.codes) o

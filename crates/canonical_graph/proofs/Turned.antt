@@ -4,7 +4,7 @@ use Rattle.std.proofs.Math.Nat.{mul-le-mul_right}
 use Rattle.std.proofs.lemmas.Bool.{cases_lt, cases_eq}
 use Rattle.std.proofs.lemmas.List.{get_or-set_other, get_or-set_same, length-set, get_or-replicate, length-replicate}
 use Rattle.canonical_graph.specs.Turning.{AreArrows, LeadsBack, AreTurned}
-use Rattle.canonical_graph.proofs.Rows.{in_row}
+use Rattle.list_facts.proofs.Numbers.{in_row}
 
 -- a place of a table has one row and one index
 same_row : (r a b i j : ℕ) → i < r → j < r → a * r + i ≡ b * r + j → a ≡ b

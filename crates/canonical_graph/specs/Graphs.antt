@@ -4,6 +4,7 @@ use Rattle.std.specs.List.{range_with_len}
 use Rattle.std.specs.List.Sorted.{IsStrictlyIncreasing}
 use Rattle.crystal_cartan.specs.declared.types.Arrow.{Arrow}
 use Rattle.tensor_words.specs.Spaces.{SpaceType, IsSpace, size}
+use Rattle.tensor_words.specs.Codes.{word_of}
 use Rattle.tensor_words.specs.Operators.{IsArrow, op}
 
 -- a finished graph, as contracts see it: its space, and the codes of its vertices; the rank of a vertex is its place
@@ -27,9 +28,12 @@ pub record IsFinished (f : FinishedType) : Type 0 where
   pub few : length f.codes < 2 ^ 32
   pub closed : IsClosedList f.space f.codes
 
--- the code of a vertex, and the rank of a code
+-- the code of a vertex and its word, and the rank of a code
 abbrev pub code_at : FinishedType → ℕ → ℕ
 code_at f rank = slice_index f.codes rank
+
+abbrev pub vertex_word : FinishedType → ℕ → List ℕ
+vertex_word f rank = word_of f.space (code_at f rank)
 
 abbrev pub rank_in : List ℕ → ℕ → Option ℕ
 rank_in codes code = position (λ c. c == code) codes

@@ -4,11 +4,10 @@ ghost use Rattle.std.specs.List.Sorted.{IsStrictlyIncreasing};
 ghost use Rattle.tensor_words.specs.Spaces.{IsSpace, size};
 ghost use Rattle.tensor_words.specs.Codes.{IsWord};
 ghost use Rattle.tensor_words.specs.Operators.{IsArrow};
-ghost use Rattle.canonical_graph.specs.Graphs.{IsFinished, IsClosedList, finished_graph, code_at, rank_in, target_rank, arrow_count};
-ghost use Rattle.canonical_graph.specs.Tables.{KeepsTables};
-ghost use Rattle.canonical_graph.specs.Texts.{vertex_word};
+ghost use Rattle.canonical_graph.specs.Graphs.{IsFinished, IsClosedList, finished_graph, code_at, vertex_word, rank_in, target_rank, arrow_count};
+ghost use Rattle.canonical_graph.specs.Tables.{KeepsTables, AreLowered};
 
-use crate::lowering::lowered_of;
+use crate::lowering::{Lowered, lowered_of};
 use crate::numbering::rank_among;
 use crate::tables::{NO_TARGET, Targets};
 use crystal_cartan::Arrow;
@@ -53,6 +52,25 @@ impl Finished {
             Ok(graph) => Ok(graph),
             Err(_) => Err(NoMemory),
         }
+    }
+
+    /// The graph of these codes, whose lowering half is at hand: the raising operators are the lowering ones turned around.
+    pub fn of_lowered(
+        alloc: Global,
+        steps: Steps,
+        codes: Vec<u64>,
+        lowered: Lowered,
+    ) -> Result<Finished, AllocError>
+        requires finished { IsFinished (finished_graph steps codes.items) }
+        requires lowered { AreLowered (finished_graph steps codes.items) (length codes.items) lowered.ranks.items lowered.arrows }
+        ensures { IfOk result (λ f. f ≡ finished_graph steps codes.items) }
+    {
+        let targets = Targets::of(alloc, &steps, codes.as_slice(), lowered)?;
+        Ok(Finished {
+            steps,
+            codes,
+            targets,
+        })
     }
 
     /// The number of vertices.
@@ -133,18 +151,6 @@ impl Finished {
     {
         self.steps.word(self.code_at(rank))
     }
-
-    /// The graph of these codes with its tables.
-    pub(crate) fn of_parts(steps: Steps, codes: Vec<u64>, targets: Targets) -> Finished
-        requires { KeepsTables (finished_graph steps codes.items) targets.lowered.items targets.raised.items targets.arrows }
-        ensures { result ≡ finished_graph steps codes.items }
-    {
-        Finished {
-            steps,
-            codes,
-            targets,
-        }
-    }
 }
 
 /// The graph of these codes.
@@ -154,6 +160,5 @@ fn finish(alloc: Global, space: Space, codes: Vec<u64>) -> Result<Finished, Allo
 {
     let steps = Steps::new(alloc, space)?;
     let lowered = lowered_of(alloc, &steps, codes.as_slice())?;
-    let targets = Targets::of(alloc, &steps, codes.as_slice(), lowered)?;
-    Ok(Finished::of_parts(steps, codes, targets))
+    Finished::of_lowered(alloc, steps, codes, lowered)
 }

@@ -1,24 +1,23 @@
-//! The lowering half of a finished graph's arrows, from its codes or from a growth.
+//! The lowering half of a finished graph's arrows.
 ghost use Rattle.std.specs.Prelude.{◌≡◌, ℕ, ◌+◌, ◌*◌, ◌^◌, ◌<◌, ◌≤◌, [], ◌∷◌, ◌++◌, if◌then◌else◌, is_some, true, length, slice_index, IfOk, OnOk, All};
 ghost use Rattle.std.specs.Option.{option_and_then};
 ghost use Rattle.std.specs.List.Sorted.{IsStrictlyIncreasing};
 ghost use Rattle.canonical_graph.specs.Graphs.{IsFinished, finished_graph, rank_in, arrows_from};
 ghost use Rattle.canonical_graph.specs.Tables.{AreLowered, entry_of, rank_row};
-ghost use Rattle.canonical_graph.specs.Growth.{HasNexts, AreRanks, IsNote, IsPlacedCode, noted_in, codes_in};
 
-use crate::frontier::{Growth, NO_PLACE};
-use crate::numbering::{PlacedCode, rank_among};
+use crate::numbering::rank_among;
 use crate::tables::NO_TARGET;
 use signature_rule::{lowered_code, places_of};
 use std::alloc::{AllocError, Global};
 use tensor_words::Steps;
 
-/// The ranks to which the lowering operators lead: a row for each vertex, with an entry for each index.
-#[derive(Drop)]
-pub(crate) struct Lowered {
-    pub(crate) ranks: Vec<u32>,
+/// The ranks to which the lowering operators lead: a row for each vertex, with an entry for each index, the rank to which it
+/// leads or 2^32 - 1 for zero.
+#[derive(Debug, Drop)]
+pub struct Lowered {
+    pub ranks: Vec<u32>,
     /// The entries that lead somewhere.
-    pub(crate) arrows: u64,
+    pub arrows: u64,
 }
 
 /// The lowering half of the finished graph with these codes.
@@ -33,30 +32,9 @@ pub(crate) fn lowered_of(alloc: Global, steps: &Steps, codes: &[u64]) -> Result<
     Ok(lowered)
 }
 
-/// The same of the codes that a growth found, with the ranks of these.
-pub(crate) fn lowered_of_growth(
-    alloc: Global,
-    steps: &Steps,
-    list: &[PlacedCode],
-    growth: &Growth,
-    ranks: &[u32],
-) -> Result<Lowered, AllocError>
-    requires finished { IsFinished (finished_graph steps.now (codes_in list.now)) }
-    requires placed { All (IsPlacedCode growth.now.found) list.now }
-    requires lowered { HasNexts steps.now growth.now.found (length growth.now.found) growth.now.lowered.items }
-    requires ranks { AreRanks (codes_in list.now) growth.now.found ranks.now }
-    ensures { IfOk result (λ t. AreLowered (finished_graph steps.now (codes_in list.now)) (length list.now) t.ranks.items t.arrows) }
-{
-    let mut lowered = Lowered::with_room(alloc, list.len(), steps.cartan().rank())?;
-    'ranks: for rank in 0..list.len() {
-        lowered.push_noted_row(steps, list, rank, growth, ranks)?;
-    }
-    Ok(lowered)
-}
-
 impl Lowered {
     /// Empty tables, with room for so many vertices and indices.
-    fn with_room(alloc: Global, vertices: usize, indices: u8) -> Result<Lowered, AllocError>
+    pub fn with_room(alloc: Global, vertices: usize, indices: u8) -> Result<Lowered, AllocError>
         requires vertices { vertices < 2 ^ 32 }
         requires indices { indices ≤ 8 }
         ensures ranks { IfOk result (λ t. t.ranks.items ≡ []) }
@@ -87,36 +65,8 @@ impl Lowered {
         Ok(())
     }
 
-    /// Appends the row of the vertex of this rank, from the notes of a growth.
-    fn push_noted_row(
-        &mut self,
-        steps: &Steps,
-        list: &[PlacedCode],
-        rank: usize,
-        growth: &Growth,
-        ranks: &[u32],
-    ) -> Result<(), AllocError>
-        requires rank { rank < length list.now }
-        requires room { self.old.arrows ≤ 2 ^ 40 }
-        requires placed { All (IsPlacedCode growth.now.found) list.now }
-        requires lowered { HasNexts steps.now growth.now.found (length growth.now.found) growth.now.lowered.items }
-        requires ranks { AreRanks (codes_in list.now) growth.now.found ranks.now }
-        ensures ranks { OnOk result (self.new.ranks.items ≡ self.old.ranks.items ++ rank_row (finished_graph steps.now (codes_in list.now)) rank true steps.now.cartan.rank) }
-        ensures arrows { OnOk result (self.new.arrows ≡ self.old.arrows + arrows_from (finished_graph steps.now (codes_in list.now)) rank) }
-        ensures few { OnOk result (self.new.arrows ≤ self.old.arrows + 8) }
-    {
-        let place = list[rank].place as usize;
-        let indices = steps.cartan().rank() as usize;
-        let first = place * indices;
-        'indices: for j in 0..indices {
-            let target = noted_rank(ranks, growth.lowered[first + j]);
-            self.push(target)?;
-        }
-        Ok(())
-    }
-
     /// Appends the entry of one index, at which the operator leads to this rank.
-    fn push(&mut self, target: Option<u32>) -> Result<(), AllocError>
+    pub fn push(&mut self, target: Option<u32>) -> Result<(), AllocError>
         requires room { self.old.arrows ≤ 2 ^ 41 }
         ensures ranks { OnOk result (self.new.ranks.items ≡ self.old.ranks.items ++ entry_of target ∷ []) }
         ensures arrows { OnOk result (self.new.arrows ≡ self.old.arrows + (if is_some target then 1 else 0)) }
@@ -124,18 +74,6 @@ impl Lowered {
         self.ranks.push(target.unwrap_or(NO_TARGET))?;
         self.arrows += u64::from(target.is_some());
         Ok(())
-    }
-}
-
-/// The rank for which a note stands, `None` for zero.
-fn noted_rank(ranks: &[u32], note: u32) -> Option<u32>
-    requires { IsNote (length ranks.now) note }
-    ensures { result ≡ noted_in ranks.now note }
-{
-    if note == NO_PLACE {
-        None
-    } else {
-        Some(ranks[note as usize])
     }
 }
 

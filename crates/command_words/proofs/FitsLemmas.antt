@@ -3,6 +3,7 @@ use Rattle.std.proofs.Common.{◌≡◌, ◌∙◌, ◌<◌, ◌≤◌, ◌||◌
 use Rattle.std.specs.Str.Parse.{digits_value}
 use Rattle.command_words.specs.declared.fault.WordsFault.TheVariants.{BadMatch, Dashed, UnknownMode}
 use Rattle.std.specs.List.{AllByRecursion, IsDistinct, list_any}
+use Rattle.std.proofs.lemmas.Bool.{and_parts, or_parts}
 use Rattle.std.proofs.lemmas.List.Quantifiers.{position-Some}
 use Rattle.std.proofs.lemmas.Slice.Eq.{bytes_eq-Decides}
 use Rattle.std.proofs.lemmas.List.Folds.{list_any-append}
@@ -19,14 +20,6 @@ use Rattle.tableau_reading.specs.Shapes.{ShapeType, shape_of}
 use Rattle.tableau_reading.specs.declared.shapes.ShapeFault.{ShapeFault}
 
 -- ---- one word
-
-both : (a b : Bool) → (a && b) ≡ true → (a ≡ true) × (b ≡ true)
-both true b is = (refl, is)
-both false b is = absurd (true≢false (sym is))
-
-neither : (a b : Bool) → (a || b) ≡ false → (a ≡ false) × (b ≡ false)
-neither true b is = absurd (true≢false is)
-neither false b is = (refl, is)
 
 found : (b : Bool) (o : Option ℕ) (place : ℕ) → place_or_fault b o ≡ Ok place → (b ≡ false) × (o ≡ Some place)
 found b None place is = absurd cc
@@ -58,8 +51,8 @@ later names seen word place [] named fresh = (tt, tt)
 later names seen word place (other ∷ places) named fresh =
     let rest = later names seen word place places named fresh.1 in
     let name = get_or names other [] in
-    let parts = neither (has_word seen name) (has_word (word ∷ []) name) (sym (list_any-append (λ text. bytes_eq text name) seen (word ∷ [])) ∙ fresh.0.1) in
-    let unlike : bytes_eq word name ≡ false = (neither _ _ parts.1).0 in
+    let parts = or_parts (has_word seen name) (has_word (word ∷ []) name) (sym (list_any-append (λ text. bytes_eq text name) seen (word ∷ [])) ∙ fresh.0.1) in
+    let unlike : bytes_eq word name ≡ false = (or_parts _ _ parts.1).0 in
     let differs : (b : Bool) → nat_eq place other ≡ b → nat_eq place other ≡ false = λ b. elim b as (λ v. nat_eq place other ≡ v → nat_eq place other ≡ false) [
       | true ↦ λ same. absurd (true≢false (sym ((bytes_eq-Decides word name).1 (sym named ∙ ap (λ k. get_or names k []) (eqb-true place other same))) ∙ unlike))
       | false ↦ λ same. same
@@ -93,7 +86,7 @@ in_range most low high text n is = go (is_numeral most text && is_between low hi
     go false tested same = absurd cc
     go true tested same =
         let value : digits_value 10 text ≡ n = cc in
-        let range = both _ _ (both _ _ tested).1 in
+        let range = and_parts _ _ (and_parts _ _ tested).1 in
         (subst (λ m. low ≤ m) value (leb-true _ _ range.0), subst (λ m. m ≤ high) value (leb-true _ _ range.1))
 
 abbrev IsRange : Option ℕ → Type 0
@@ -107,7 +100,7 @@ grow_fits names (Some n) more range = go (places_named names [] more) refl
     go (Err fault) is = tt
     go (Ok places) is =
         let fresh = fresh_places names [] more places is in
-        ((range n refl).0, (range n refl).1, fresh.1, places_below names [] places fresh.0)
+        ((range n refl).0, (range n refl).1, record { distinct = fresh.1; below = places_below names [] places fresh.0 })
 
 sample_fits : (count : ℕ) (growers : Option ℕ) (more : List Text) → IsRange growers → IfOk (judge_sample growers more) (FitsNames count)
 sample_fits count None more range = tt

@@ -1,5 +1,6 @@
 -- What the reader of arguments makes of words of which none begins with `-`.
 use Rattle.std.proofs.Common.{◌≡◌, ◌∙◌, ◌||◌, ℕ, Bool, true, false, refl, ap, List, [], ◌∷◌, ◌++◌, Some, None, codes, append_assoc, true≢false, Result, Ok, Err, IfOk}
+use Rattle.std.proofs.lemmas.Bool.{or_parts}
 use Rattle.std.specs.List.{fold, list_any}
 use Rattle.clap.specs.Simple.{App, HasMatchesOf, built, is_simple, matches_of}
 use Rattle.clap.specs.Matches.{found_of}
@@ -75,16 +76,12 @@ rest_step : (mode growers : Text) (seen : List Text) (last word : Text) → is_d
 rest_step mode growers [] last word plain = positional_step rules (held (both_rows mode growers) (codes "REST") last) 3 word plain
 rest_step mode growers (x ∷ xs) last word plain = positional_step rules (held (both_rows mode growers ++ rest_rows (x ∷ xs)) (codes "REST") last) 3 word plain
 
-neither : (a b : Bool) → (a || b) ≡ false → (a ≡ false) × (b ≡ false)
-neither true b is = absurd (true≢false is)
-neither false b is = (refl, is)
-
 rest_finished : (mode growers : Text) (seen : List Text) (last : Text) (words : List Text) → list_any is_dashed words ≡ false
     → finished rules (fold (walked rules []) (after_rest mode growers seen last) words).held ≡ both_rows mode growers ++ arg_row (codes "REST") (seen ++ last ∷ words) ∷ []
 rest_finished mode growers [] last [] plain = refl
 rest_finished mode growers (x ∷ xs) last [] plain = refl
 rest_finished mode growers seen last (word ∷ words) plain =
-    let parts = neither _ _ plain in
+    let parts = or_parts _ _ plain in
     ap (λ w. finished rules (fold (walked rules []) w words).held) (rest_step mode growers seen last word parts.0)
     ∙ rest_finished mode growers (seen ++ last ∷ []) word words parts.1
     ∙ ap (λ ws. both_rows mode growers ++ arg_row (codes "REST") ws ∷ []) (append_assoc seen (last ∷ []) (word ∷ words))
@@ -96,14 +93,14 @@ growers_reached mode growers first second = ap (λ w. walked rules [] w growers)
 -- the matches of plain words
 pub rows_read : (words : List Text) → list_any is_dashed words ≡ false → matches_of line_app words ≡ line_rows words
 rows_read [] plain = refl
-rows_read (mode ∷ []) plain = ap (λ w. finished rules w.held) (mode_step mode (neither _ _ plain).0)
+rows_read (mode ∷ []) plain = ap (λ w. finished rules w.held) (mode_step mode (or_parts _ _ plain).0)
 rows_read (mode ∷ growers ∷ []) plain =
-    let first = neither _ _ plain in
-    ap (λ w. finished rules w.held) (growers_reached mode growers first.0 (neither _ _ first.1).0)
+    let first = or_parts _ _ plain in
+    ap (λ w. finished rules w.held) (growers_reached mode growers first.0 (or_parts _ _ first.1).0)
 rows_read (mode ∷ growers ∷ word ∷ words) plain =
-    let first = neither _ _ plain in
-    let second = neither _ _ first.1 in
-    let third = neither _ _ second.1 in
+    let first = or_parts _ _ plain in
+    let second = or_parts _ _ first.1 in
+    let third = or_parts _ _ second.1 in
     ap (λ w. finished rules (fold (walked rules []) w (word ∷ words)).held) (growers_reached mode growers first.0 second.0)
     ∙ ap (λ w. finished rules (fold (walked rules []) w words).held) (first_step mode growers word third.0)
     ∙ rest_finished mode growers [] word words third.1

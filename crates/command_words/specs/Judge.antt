@@ -151,11 +151,15 @@ judge_words words names =
 abbrev pub IsAnswer : {T : Type 0} → Result T WordsFault → Result T WordsFault → Type 0
 IsAnswer meaning answer = (answer ≡ meaning) ⊎ (answer ≡ Err NoMemory)
 
+-- the places are different ones of so many statistics
+pub record AreChosen (count : ℕ) (places : List ℕ) : Type 0 where
+  pub distinct : IsDistinct nat_eq places
+  pub below : (k : ℕ) → k < length places → slice_index places k < count
+
 -- the number of growers is 1 to 16, the chosen places are different ones of `count` names, and the shape of a census is
 -- of type A and in the standard order
 abbrev pub FitsNames : ℕ → Settings → Type 0
-FitsNames count (Grow growers places) = (1 ≤ growers) × (growers ≤ 16)
-    × IsDistinct nat_eq places × ((k : ℕ) → k < length places → slice_index places k < count)
+FitsNames count (Grow growers places) = (1 ≤ growers) × (growers ≤ 16) × AreChosen count places
 FitsNames count (Sample growers number) = (1 ≤ growers) × (growers ≤ 16)
 FitsNames count (Census shape) = IsShape shape × (shape.cartan.kind ≡ A) × (shape.order ≡ Standard)
 FitsNames count (Match relabelling) = Unit {0}

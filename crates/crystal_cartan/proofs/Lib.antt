@@ -1,3 +1,4 @@
 pub mod Bounds
 pub mod Coordinates
+pub mod Ranks
 pub mod Worked

@@ -1,6 +1,6 @@
 -- Weights, simple roots, pairings and reflections (Bump and Schilling, Crystal Bases, 2017, section 2.1 and its tables).
 -- A weight is the list of its coordinates, each doubled, so that the weights of spin elements are whole numbers.
-use Rattle.std.specs.Prelude.{ℕ, ◌+◌, ◌-◌, ◌≡◌, ◌==◌, nat_lt, if◌then◌else◌, List, map, length, slice_index_or, ℤ, pos, negsuc, neg_ℤ, ◌+ℤ◌, ◌-ℤ◌, ◌*ℤ◌, ◌≤ℤ◌, All}
+use Rattle.std.specs.Prelude.{ℕ, ◌+◌, ◌-◌, ◌≡◌, ◌==◌, nat_lt, if◌then◌else◌, List, map, length, slice_index_or, ℤ, pos, neg_ℤ, ◌+ℤ◌, ◌-ℤ◌, ◌*ℤ◌, ◌≤ℤ◌, All}
 use Rattle.std.specs.List.{range_with_len}
 use Rattle.crystal_cartan.specs.Types.{CartanType, coordinates, HasIndex}
 use Rattle.crystal_cartan.specs.declared.types.Kind.{Kind}

@@ -1,10 +1,10 @@
 -- The items of the first vertices.
-use Rattle.std.proofs.Common.{◌≡◌, ◌∙◌, refl, sym, ap, ℕ, zero, suc, ◌+◌, ◌≤◌, ◌<◌, nat_eq, eqb-true, Bool, true, false, ◌||◌, if◌then◌else◌, List, [], ◌∷◌, ◌++◌, length, map, get_or, set, take, drop, append_assoc, append-nil, zero-add, inl, inr, arith}
+use Rattle.std.proofs.Common.{◌≡◌, ◌∙◌, refl, sym, ap, ℕ, zero, suc, ◌+◌, ◌≤◌, ◌<◌, nat_eq, eqb-true, Bool, true, false, ◌||◌, if◌then◌else◌, List, [], ◌∷◌, ◌++◌, length, get_or, set, take, drop, append_assoc, append-nil, zero-add, inl, inr, arith}
 use Rattle.std.specs.List.{IsDistinct, list_any, range_with_len}
 use Rattle.std.proofs.lemmas.Bool.{cases_eq, eq-eqb, ne_eqb}
 use Rattle.std.proofs.lemmas.Cmp.{nat_eq_equiv}
 use Rattle.std.proofs.lemmas.Grind.{get_or-set_at}
-use Rattle.std.proofs.lemmas.List.{get_or-set_other, get_or_default, get_or-take, length-take-le, take_all, take-append-drop}
+use Rattle.std.proofs.lemmas.List.{map-id, get_or-set_other, get_or_default, get_or-take, length-take-le, take_all, take-append-drop}
 use Rattle.std.proofs.Math.Seq.{take-nil}
 use Rattle.std.proofs.lemmas.List.Folds.{list_any-append, list_any_more}
 use Rattle.std.proofs.lemmas.List.FromFn.{take-map-range_with_len, map-range_with_len_more, length-range_with_len, get_or-range_with_len}
@@ -97,10 +97,6 @@ part_chosen places j k items old new is = by (list_any (nat_eq k) (take j places
 pub part_all : (items old new : List Item) → new ≡ old ++ items → (n : ℕ) × (new ≡ old ++ take n items)
 part_all items old new is = (length items, is ∙ ap (λ xs. old ++ xs) (sym (take_all (length items) items (omega arith))))
 
-map_same : (xs : List ℕ) → map (λ x. x) xs ≡ xs
-map_same [] = refl
-map_same (x ∷ xs) = ap (λ ys. x ∷ ys) (map_same xs)
-
 -- the items of one more vertex, and a part of them
 pub chosen_items_more : (f : FinishedType) (places : List ℕ) (k n : ℕ) (x : Item) (old mid new : List Item) → x ≡ item_at f n
     → mid ≡ old ++ items_for places k (first_items f n) → new ≡ mid ++ items_for places k (x ∷ []) → new ≡ old ++ items_for places k (first_items f (n + 1))
@@ -147,7 +143,7 @@ every_chosen n k lt = list_any-from_Contains nat_eq_equiv k (range_with_len 0 n)
 
 pub one_more_place : (n k : ℕ) (old new : List ℕ) → n ≡ k → old ≡ range_with_len 0 n → new ≡ old ++ k ∷ [] → new ≡ range_with_len 0 (n + 1)
 one_more_place n k old new same is added =
-    added ∙ ap (λ xs. xs ++ k ∷ []) (is ∙ sym (map_same (range_with_len 0 n))) ∙ sym (map-range_with_len_more (λ x. x) 0 n k (zero-add n ∙ same)) ∙ map_same (range_with_len 0 (n + 1))
+    added ∙ ap (λ xs. xs ++ k ∷ []) (is ∙ sym (map-id (range_with_len 0 n))) ∙ sym (map-range_with_len_more (λ x. x) 0 n k (zero-add n ∙ same)) ∙ map-id (range_with_len 0 (n + 1))
 
 -- where all are chosen each is fed all items
 pub items_for_all : (places : List ℕ) (n k : ℕ) (items : List Item) → places ≡ range_with_len 0 n → k < n → items_for places k items ≡ items

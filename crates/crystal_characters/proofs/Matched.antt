@@ -1,5 +1,5 @@
 -- Counting the elements that a reflection matches.
-use Rattle.std.proofs.Common.{◌≡◌, ◌≢◌, ◌∙◌, sym, refl, ap, subst, ℕ, zero, suc, ◌≤◌, ◌<◌, ◌⊎◌, inl, inr, Bool, true, false, cond, List, [], ◌∷◌, length, map, get_or, nat_eq, Contains, arith}
+use Rattle.std.proofs.Common.{◌≡◌, ◌≢◌, ◌∙◌, sym, refl, ap, subst, ℕ, ◌≤◌, ◌<◌, Bool, true, List, length, map, get_or, nat_eq, Contains, arith}
 use Rattle.std.specs.List.{filter, count_by, AllPairs, IsDistinct}
 use Rattle.std.specs.List.Sorted.{IsStrictlyIncreasing}
 use Rattle.std.specs.Set.{is_member}
@@ -10,28 +10,7 @@ use Rattle.std.proofs.lemmas.List.Elements.{All-contains_itself, All-filter, fil
 use Rattle.std.proofs.lemmas.List.Kept.{AllPairs-filter, AllPairs-from_increasing}
 use Rattle.std.proofs.lemmas.List.Sums.{length-filter}
 use Rattle.std.proofs.lemmas.Map.Made.{length-le_from_is_member, is_member-Decides, IsDistinct-from_AllPairs}
-
-pub in_cons : {X : Type 0} (x : X) (xs : List X) (y : X) → Contains (x ∷ xs) y → (x ≡ y) ⊎ Contains xs y
-in_cons x xs y (zero, lt, at) = inl at
-in_cons x xs y (suc k, lt, at) = inr (k, omega arith, at)
-
-pub in_first : {X : Type 0} (x : X) (xs : List X) → Contains (x ∷ xs) x
-in_first x xs = (0, omega arith, refl)
-
-pub in_rest : {X : Type 0} (x : X) (xs : List X) (y : X) → Contains xs y → Contains (x ∷ xs) y
-in_rest x xs y (k, lt, at) = (suc k, omega arith, at)
-
-kept : (q : ℕ → Bool) (xs : List ℕ) (y : ℕ) → Contains xs y → q y ≡ true → Contains (filter q xs) y
-kept q [] y (k, lt, at) passes = absurd (omega arith)
-kept q (x ∷ xs) y there passes = by (q x) refl (in_cons x xs y there) (λ h. kept q xs y h passes)
-  where
-    by : (b : Bool) → q x ≡ b → (x ≡ y) ⊎ Contains xs y → (Contains xs y → Contains (filter q xs) y) → Contains (cond b (x ∷ filter q xs) (filter q xs)) y
-    by true is (inl same) rest = subst (Contains (x ∷ filter q xs)) same (in_first x (filter q xs))
-    by true is (inr later) rest = in_rest x (filter q xs) y (rest later)
-    by false is (inl same) rest =
-        let wrong : q y ≡ false = ap q (sym same) ∙ is in
-        cc
-    by false is (inr later) rest = rest later
+use Rattle.list_facts.proofs.Lists.{filter_keeps}
 
 -- a map that takes the elements of one kind to elements of another, and back, shows that there are not more of them
 pub not_more : (p q : ℕ → Bool) (g : ℕ → ℕ) (xs : List ℕ) → IsStrictlyIncreasing xs
@@ -72,4 +51,4 @@ not_more p q g xs up takes =
         let low : there.0 < length sources = omega (arith, there.1, length-map sources g) in
         let at : g (get_or sources there.0 k) ≡ k = sym (get_or-map g sources there.0 k k low) ∙ there.2 in
         let takes_it = taken (get_or sources there.0 k) there.0 k low refl in
-        (is_member-Decides Decides-eqb targets k).1 (kept q xs k (subst (Contains xs) at takes_it.0) (ap q (sym at) ∙ takes_it.1))
+        (is_member-Decides Decides-eqb targets k).1 (filter_keeps q xs k (subst (Contains xs) at takes_it.0) (ap q (sym at) ∙ takes_it.1))

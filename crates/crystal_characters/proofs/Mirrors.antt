@@ -12,7 +12,7 @@ use Rattle.crystal_cartan.proofs.Coordinates.{weight_by_coordinates}
 use Rattle.tensor_words.specs.Spaces.{SpaceType, IsSpace, size}
 use Rattle.tensor_words.specs.Operators.{op}
 use Rattle.canonical_graph.specs.Graphs.{FinishedType, IsFinished, code_at, rank_in}
-use Rattle.canonical_graph.proofs.Ranks.{place_of_rank, rank_of_code, rank_of_listed, listed_code}
+use Rattle.canonical_graph.proofs.Ranks.{code_below, place_of_rank, rank_of_code, rank_of_listed, listed_code}
 use Rattle.crystal_characters.specs.Characters.{code_weight, vertex_weight}
 use Rattle.crystal_characters.specs.Reflections.{repeated, repeated_rank, reflected_by, crystal_reflection, reflection_rank}
 use Rattle.crystal_characters.proofs.Strings.{arrow_of, eps_of, phi_of, IsString, seminormal_code, lowered, raised}
@@ -126,9 +126,6 @@ pub record IsImage (f : FinishedType) (i rank t : ℕ) : Type 0 where
   pub back : reflection_rank f i t ≡ Some rank
   pub weight : vertex_weight f t ≡ reflection f.space.cartan (vertex_weight f rank) i
 
-listed_below : (f : FinishedType) (rank : ℕ) → IsFinished f → rank < length f.codes → code_at f rank < size f.space
-listed_below f rank finished lt = finished.below rank 0 lt
-
 -- the codes to which an operator leads from a listed code are listed
 pub repeated_listed : (f : FinishedType) (down : Bool) (i n c d : ℕ) → IsFinished f → HasIndex f.space.cartan i → Contains f.codes c
     → repeated f.space (arrow_of down i) n c ≡ Some d → Contains f.codes d
@@ -157,7 +154,7 @@ mirror_listed f i c d finished index there is = reflected_listed f i c d _ finis
 pub image_of : (f : FinishedType) (i rank : ℕ) → IsFinished f → HasIndex f.space.cartan i → rank < length f.codes → (t : ℕ) × IsImage f i rank t
 unfolding reflection_rank crystal_reflection
 image_of f i rank finished index lt =
-    let mirror = mirror_of f.space i (code_at f rank) finished.space index (listed_below f rank finished lt) in
+    let mirror = mirror_of f.space i (code_at f rank) finished.space index (code_below f rank finished lt) in
     let there : Contains f.codes mirror.0 = reflected_listed f i (code_at f rank) mirror.0 _ finished index (listed_code f rank lt) mirror.1.image in
     let found = rank_of_listed f.codes mirror.0 finished.ascending there in
     let place = place_of_rank f.codes mirror.0 found.0 found.1 in

@@ -5,7 +5,7 @@ use Rattle.std.proofs.lemmas.List.{get_or-map, length-map}
 use Rattle.crystal_characters.specs.declared.tallies.Multiplicity.{Multiplicity}
 use Rattle.crystal_characters.specs.Characters.{weight_order, multiplicity, IsFalling, CharactersAreUnique}
 use Rattle.crystal_characters.proofs.Counted.{falling_tail}
-use Rattle.crystal_characters.proofs.Matched.{in_cons, in_first, in_rest}
+use Rattle.list_facts.proofs.Lists.{in_cons, in_first, in_rest}
 use Rattle.crystal_characters.proofs.Tallying.{weights_in}
 use Rattle.crystal_characters.proofs.WeightOrder.{same_itself, above_above, above_differs}
 

@@ -8,7 +8,7 @@ use Rattle.std.proofs.lemmas.List.Sums.{sum_by-cons}
 use Rattle.std.proofs.lemmas.List.Sorted.{sum_by-IsPermutation}
 use Rattle.crystal_characters.specs.declared.tallies.Multiplicity.{Multiplicity}
 use Rattle.crystal_characters.specs.Characters.{weight_order, is_same_weight, once, once_more, counted, tally, IsFalling}
-use Rattle.crystal_characters.proofs.Matched.{in_cons, in_first, in_rest}
+use Rattle.list_facts.proofs.Lists.{in_cons, in_first, in_rest}
 use Rattle.crystal_characters.proofs.WeightOrder.{equal_weights, same_itself, above_from_below, below_from_above, above_above, above_differs, below_differs}
 
 -- the weight is above every listed one

@@ -11,7 +11,7 @@ use Rattle.tensor_words.specs.Codes.{code_of, word_of}
 use Rattle.tensor_words.specs.TensorRule.{action}
 use Rattle.tensor_words.specs.Operators.{op}
 use Rattle.crystal_streams.specs.Lines.{ended}
-use Rattle.canonical_graph.specs.Texts.{bar}
+use Rattle.text_pieces.specs.Pieces.{bar}
 use Rattle.crystal_characters.specs.declared.items.Item.{Item}
 use Rattle.crystal_characters.specs.declared.tallies.Multiplicity.{Multiplicity}
 use Rattle.crystal_characters.specs.Characters.{tally}

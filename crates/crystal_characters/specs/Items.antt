@@ -3,8 +3,7 @@ use Rattle.std.specs.Prelude.{ℕ, nat_le, nat_eq, if◌then◌else◌, List, []
 use Rattle.std.specs.List.{range_with_len, list_any}
 use Rattle.crystal_cartan.specs.Weights.{IsWeight, IsSmall}
 use Rattle.tensor_words.specs.TensorRule.{action}
-use Rattle.canonical_graph.specs.Graphs.{FinishedType, code_at}
-use Rattle.canonical_graph.specs.Texts.{vertex_word}
+use Rattle.canonical_graph.specs.Graphs.{FinishedType, code_at, vertex_word}
 use Rattle.crystal_characters.specs.declared.items.Item.{Item}
 use Rattle.crystal_characters.specs.Characters.{vertex_weight}
 

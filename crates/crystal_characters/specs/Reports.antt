@@ -3,7 +3,7 @@ use Rattle.std.specs.Prelude.{ℕ, ◌-◌, ◌==◌, ◌||◌, ◌≡◌, max, 
 use Rattle.std.specs.List.{range_with_len, flat_map, list_all}
 use Rattle.crystal_streams.specs.Lines.{ended}
 use Rattle.tableau_reading.specs.Texts.{weight_text}
-use Rattle.canonical_graph.specs.Texts.{bar}
+use Rattle.text_pieces.specs.Pieces.{bar}
 use Rattle.crystal_characters.specs.declared.items.Item.{Item}
 use Rattle.crystal_characters.specs.declared.tallies.Multiplicity.{Multiplicity}
 use Rattle.crystal_characters.specs.Characters.{tally}

@@ -1,11 +1,11 @@
 -- What a grower's seat does, one piece after another.
 use Rattle.std.proofs.Common.{◌≡◌, refl, sym, ap, ap₂, subst, ◌∙◌, ℕ, ◌+◌, ◌-◌, ◌<◌, ◌==◌, ◌⊎◌, inl, inr, List, [], ◌∷◌, ◌++◌, Option, Some, Contains, append-nil, append_assoc, arith}
 use Rattle.std.proofs.lemmas.List.Elements.{Contains-append_left, Contains-append_right, Contains-append_cases}
+use Rattle.list_facts.proofs.Lists.{nothing_in, in_cons, nothing}
 use Rattle.tensor_words.specs.Worlds.{WorldType}
 use Rattle.graph_history.specs.declared.event.Act.TheVariants.{Spent}
 use Rattle.graph_history.specs.declared.event.Event.{Event}
-use Rattle.graph_history.specs.declared.view.Kept.{Kept}
-use Rattle.graph_history.specs.declared.view.View.{View}
+use Rattle.graph_history.specs.Views.{View, Kept}
 use Rattle.graph_history.specs.History.{calls}
 use Rattle.graph_history.specs.Desks.{added_cells}
 use Rattle.graph_rule.specs.Rule.{IsPrefix, IsKnown}
@@ -16,13 +16,13 @@ use Rattle.parcel_deques.specs.declared.parcel.Slip.{Slip}
 use Rattle.parcel_deques.specs.Parcels.{IsHanded}
 use Rattle.parcel_deques.specs.Benches.{BenchValue}
 use Rattle.parcel_deques.proofs.Weights.{weigh-append}
-use Rattle.crystal_growers.specs.Growth.{Grew}
-use Rattle.crystal_growers.specs.Work.{HasDrawn, SeatHasSpent}
-use Rattle.crystal_growers.specs.Shifts.{HasActed, HasWorked, HasOffered}
-use Rattle.crystal_growers.proofs.Parts.{none_in, head_or, has_or_not, rest_has}
+use Rattle.crystal_growers.specs.GrowthEvents.{Grew}
+use Rattle.crystal_growers.specs.Drawing.{HasDrawn, SeatHasSpent}
+use Rattle.crystal_growers.specs.Grower.{HasActed, HasWorked, HasOffered}
+use Rattle.crystal_growers.proofs.Parts.{has_or_not, rest_has}
 use Rattle.crystal_growers.proofs.Histories.{grew_none, grew_then, same_calls, filter_in}
 use Rattle.crystal_growers.proofs.DrawnCells.{by_has}
-use Rattle.crystal_growers.proofs.SharedSteps.{worked_belongs}
+use Rattle.shared_desk.proofs.SharedSteps.{worked_belongs}
 use Rattle.crystal_growers.proofs.SlipCells.{no_cell, cell_or, one_cell}
 
 -- nothing yet
@@ -35,7 +35,7 @@ acted_none g s belongs known pledge = record {
   grew = grew_none g.world s.view.number s.view.front;
   news = [];
   kept = sym (append-nil s.view.kept);
-  quiet = λ m h. absurd (none_in m h);
+  quiet = λ m h. absurd (nothing_in m h);
   stake = refl;
 }
 
@@ -86,7 +86,7 @@ module _ (g : GraphValue) (old now : SeatValue) (cells added : List ℕ) (full :
     grew = subst (λ (w : WorldType). Grew w old.view.number old.view.front now.view.front) belongs.world d.grew;
     news = [];
     kept = ap (λ (v : View). v.kept) d.worked.went.is ∙ sym (append-nil old.view.kept);
-    quiet = λ m h. absurd (none_in m h);
+    quiet = λ m h. absurd (nothing_in m h);
     stake = ap (λ (v : View). v.stake + 0) d.worked.went.is;
   }
 
@@ -117,12 +117,12 @@ module _ (g : GraphValue) (s p now : SeatValue) (x : Slip) (belongs : Belongs s 
     pledge = ap (λ (v : View). v.dues.pledge) step.is ∙ ap₂ (λ (k l : ℕ). k + l) pledge h.pledge;
     known = step.known;
     grew = same_calls g.world s.view.number s.view.front now.view.front on.0 on.1
-        (known.agrees.own.mine ∙ sym (append-nil s.view.calls) ∙ sym (ap (λ (v : View). v.calls) step.is) ∙ sym step.known.agrees.own.mine ∙ ap (λ (n : ℕ). calls now.view.front n) number);
+        (known.sound.agrees.own.mine ∙ sym (append-nil s.view.calls) ∙ sym (ap (λ (v : View). v.calls) step.is) ∙ sym step.known.sound.agrees.own.mine ∙ ap (λ (n : ℕ). calls now.view.front n) number);
     news = record { number = p.view.number; calls = p.view.calls } ∷ [];
     kept = ap (λ (v : View). v.kept) step.is ∙ ap (λ (l : List Kept). s.view.kept ++ record { number = p.view.number; calls = p.view.calls } ∷ l) h.alone;
-    quiet = λ m there. elim (head_or (record { number = p.view.number; calls = p.view.calls }) [] m there) [
+    quiet = λ m there. elim (in_cons (record { number = p.view.number; calls = p.view.calls }) [] m there) [
       | inl e ↦ sym (ap (λ (k : Kept). k.calls) e) ∙ h.unheard
-      | inr none ↦ absurd (none_in m none)
+      | inr none ↦ absurd (nothing_in m none)
     ];
     stake = let sum : now.view.stake ≡ s.view.stake + p.view.stake = ap (λ (v : View). v.stake) step.is in omega arith;
   }
@@ -150,7 +150,7 @@ acted_handed g s now x cells belongs pledge table is known one some = record {
   grew = subst (λ (f : List Event). Grew g.world s.view.number s.view.front f) (sym (ap (λ (v : View). v.front) is)) (grew_none g.world s.view.number s.view.front);
   news = [];
   kept = ap (λ (v : View). v.kept) is ∙ sym (append-nil s.view.kept);
-  quiet = λ m h. absurd (none_in m h);
+  quiet = λ m h. absurd (nothing_in m h);
   stake = let less : now.view.stake ≡ s.view.stake - 1 = ap (λ (v : View). v.stake) is in omega arith;
 }
 

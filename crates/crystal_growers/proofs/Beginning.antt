@@ -3,15 +3,15 @@ use Rattle.std.proofs.Common.{◌≡◌, sym, ap, subst, ◌∙◌, ℕ, nat_eq,
 use Rattle.std.specs.List.{IsDistinct}
 use Rattle.std.proofs.lemmas.List.Elements.{All-weaker, All-contains, All-contains_itself, Contains-append_right}
 use Rattle.graph_history.specs.declared.event.Event.{Event}
-use Rattle.graph_history.specs.declared.view.View.{View}
+use Rattle.graph_history.specs.Views.{View}
 use Rattle.graph_history.specs.History.{state_of, HasSome}
 use Rattle.graph_rule.specs.Rule.{IsPrefix}
 use Rattle.graph_rule.specs.Values.{GraphValue, SeatValue, Belongs}
 use Rattle.graph_rule.proofs.Views.{some_prefix}
-use Rattle.crystal_growers.specs.declared.work.Start.{Start}
-use Rattle.crystal_growers.specs.Work.{CanDraw, IsWaiting}
-use Rattle.crystal_growers.specs.Gather.{AreStarts}
-use Rattle.crystal_growers.specs.Grow.{HasBegun}
+use Rattle.crystal_growers.specs.declared.grower.Start.{Start}
+use Rattle.crystal_growers.specs.Drawing.{CanDraw, IsWaiting}
+use Rattle.crystal_growers.specs.Gathering.{AreStarts}
+use Rattle.crystal_growers.specs.Growth.{HasBegun}
 use Rattle.crystal_growers.proofs.Parts.{rest_has, distinct_split}
 use Rattle.crystal_growers.proofs.Waiting.{waits_none}
 

@@ -16,10 +16,10 @@ use Rattle.graph_history.specs.Desks.{Does}
 use Rattle.graph_rule.specs.Layout.{LeadsTo}
 use Rattle.graph_rule.specs.Rule.{IsKnown}
 use Rattle.graph_rule.specs.Told.{drawn_acts}
-use Rattle.crystal_growers.specs.SharedDesks.{DeskValue, standing_of, Entered}
-use Rattle.crystal_growers.specs.Expanding.{ArrowDrawn}
-use Rattle.crystal_growers.proofs.SharedSteps.{drawn_quiet}
-use Rattle.crystal_growers.proofs.Drawings.{vertex_goes, there_in, drawing_entered, drawing_full, word_fits}
+use Rattle.shared_desk.specs.SharedDesks.{DeskValue, standing_of, Entered}
+use Rattle.crystal_growers.specs.Expansion.{ArrowDrawn}
+use Rattle.shared_desk.proofs.SharedSteps.{drawn_quiet}
+use Rattle.shared_desk.proofs.Drawings.{vertex_goes, there_in, drawing_entered, drawing_full, word_fits}
 use Rattle.crystal_growers.proofs.ExpandSteps.{arrow_drawn, arrow_full, step_run, before_step, drawn_growth}
 
 module _ (old mid : DeskValue) (c x y : ℕ) (a : Arrow) (r : AddedAnswer) (e : Entered old mid x (By c a) r) (there : HasVertex (state_of old.seat.view.front) c y)

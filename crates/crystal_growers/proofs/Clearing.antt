@@ -10,8 +10,8 @@ use Rattle.parcel_deques.specs.Gather.{all_taken}
 use Rattle.parcel_deques.proofs.Weights.{weigh-append}
 use Rattle.parcel_deques.proofs.Slips.{owned_same}
 use Rattle.crystal_growers.specs.Slips.{all_pushed}
-use Rattle.crystal_growers.specs.Shifts.{HasWorked, HasSwept}
-use Rattle.crystal_growers.specs.Gather.{AreHome, HasCleared}
+use Rattle.crystal_growers.specs.Grower.{HasWorked, HasSwept}
+use Rattle.crystal_growers.specs.Gathering.{AreHome, HasCleared}
 use Rattle.crystal_growers.proofs.Acting.{works_then}
 use Rattle.crystal_growers.proofs.Collection.{pushed_push, taken_push}
 

@@ -3,31 +3,31 @@ use Rattle.std.proofs.Common.{◌≡◌, refl, sym, ap, ap₂, subst, ◌∙◌,
 use Rattle.std.specs.List.{IsDistinct}
 use Rattle.std.specs.Set.{is_member}
 use Rattle.std.proofs.lemmas.List.Elements.{Contains-append_left, Contains-append_right, Contains-append_cases}
-use Rattle.graph_history.specs.declared.view.Kept.{Kept}
-use Rattle.graph_history.specs.declared.view.View.{View}
+use Rattle.list_facts.proofs.Lists.{nothing_in, in_first, nothing, filter_keeps}
+use Rattle.graph_history.specs.Views.{Kept}
+use Rattle.graph_history.specs.Views.{View}
 use Rattle.graph_history.specs.History.{state_of, IsWhole}
-use Rattle.graph_history.proofs.CellLists.{into, out_of, part_of, part_has}
+use Rattle.graph_history.proofs.CellLists.{into, out_of, part_of}
 use Rattle.graph_rule.specs.Rule.{IsPrefix, IsKnown}
 use Rattle.graph_rule.specs.Told.{Advances}
 use Rattle.graph_rule.specs.Parting.{joined, hand_left, hand_right}
 use Rattle.graph_rule.specs.Values.{GraphValue, SeatValue, Belongs}
-use Rattle.graph_rule.proofs.Views.{prefix_self}
+use Rattle.shared_seats.proofs.Fronts.{prefix_self}
 use Rattle.parcel_deques.specs.declared.parcel.Slip.{Slip}
 use Rattle.parcel_deques.specs.Benches.{BenchValue}
 use Rattle.parcel_deques.specs.Gather.{all_taken, IsGathered, AreGathered}
 use Rattle.parcel_deques.proofs.Weights.{weigh-append}
-use Rattle.crystal_growers.specs.declared.work.Start.{Start}
-use Rattle.crystal_growers.specs.Growth.{HasEnded, rest_of}
+use Rattle.crystal_growers.specs.declared.grower.Start.{Start}
+use Rattle.crystal_growers.specs.Expansion.{HasEnded, rest_of}
 use Rattle.crystal_growers.specs.Slips.{slip_stakes, HasCell, all_pushed}
-use Rattle.crystal_growers.specs.Work.{IsWaiting}
-use Rattle.crystal_growers.specs.Shifts.{GoesOn}
-use Rattle.crystal_growers.specs.Gather.{HasGrown, IsSpentBy, IsNumberOf, IsPaidUp, HasCollected, AreHome, HasCleared, FinishedWith, HasFinished}
-use Rattle.crystal_growers.specs.Grow.{IsLost, IsNumberIn, HasClosed}
-use Rattle.crystal_growers.proofs.Parts.{none_in, first_in, has_or_not, rest_in, rest_has}
+use Rattle.crystal_growers.specs.Drawing.{IsWaiting}
+use Rattle.crystal_growers.specs.Grower.{GoesOn}
+use Rattle.crystal_growers.specs.Gathering.{HasTakenIn, IsSpentBy, IsNumberOf, IsPaidUp, HasCollected, AreHome, HasCleared, RestEndedWith, HasDrawnRest}
+use Rattle.crystal_growers.specs.Growth.{IsLost, IsNumberIn, HasClosed}
+use Rattle.crystal_growers.proofs.Parts.{has_or_not, rest_in, rest_has}
 use Rattle.crystal_growers.proofs.SlipCells.{cell_or, same_cells}
 use Rattle.crystal_growers.proofs.DrawnCells.{whole_later}
 use Rattle.crystal_growers.proofs.Waiting.{can_draw}
-use Rattle.crystal_growers.proofs.Collection.{nothing}
 use Rattle.crystal_growers.proofs.Coming.{IsComing, coming, own, grown_gave, grown_joined, grown_wider, grown_then, spent_wider, lost_gave}
 
 -- a seat to which unpaid cells were handed waits for them
@@ -38,7 +38,7 @@ module _ (g : GraphValue) (s child : SeatValue) (rest : List ℕ) (belongs : Bel
   pub child_waits : IsDistinct nat_eq rest → ((c : ℕ) → Contains rest c → Contains s.view.dues.unpaid c) → IsWaiting g rest child
   child_waits once unpaid = record {
     can = can_draw g child rest child_belongs known (ap (λ (v : View). v.dues.pledge) is) once
-        (λ c h. subst (λ (v : View). Contains v.dues.unpaid c) (sym is) (part_has (is_member nat_eq rest) s.view.dues.unpaid c (unpaid c h) (into rest c h)));
+        (λ c h. subst (λ (v : View). Contains v.dues.unpaid c) (sym is) (filter_keeps (is_member nat_eq rest) s.view.dues.unpaid c (unpaid c h) (into rest c h)));
     no_other = λ c h. out_of rest c (part_of (is_member nat_eq rest) s.view.dues.unpaid c (subst (λ (v : View). Contains v.dues.unpaid c) is h)).1;
     covered = λ c h. inr (out_of rest c (part_of (is_member nat_eq rest) s.view.dues.owed c (subst (λ (v : View). Contains v.dues.owed c) is h)).1);
   }
@@ -52,11 +52,11 @@ module _ (g : GraphValue) (old mid child t now : SeatValue) (benches : List Benc
   comes = coming g (λ n. n ≡ old.view.next) old.view.front child t c.got [] child_known (ap (λ (v : View). v.calls) child_is) (ap (λ (v : View). v.kept) child_is) (ap (λ (v : View). v.front) child_is)
       (ap (λ (v : View). v.number) child_is) c.worked.acted
 
-  gave : HasGrown g (λ n. n ≡ old.view.next) old mid 1 []
+  gave : HasTakenIn g (λ n. n ≡ old.view.next) old mid 1 []
   gave = grown_gave g (λ n. n ≡ old.view.next) old mid 1 belongs mid_table (mid_is ∙ (λ i. record old.view { next = old.view.next + 1; left = old.view.left - 1; stake = sym (ap (λ (v : View). v.stake) mid_is) i; dues = sym (ap (λ (v : View). v.dues) mid_is) i }))
       mid_known (ap (λ (v : View). v.dues.pledge) mid_is ∙ free)
 
-  grown : HasGrown g (λ n. n ≡ old.view.next) old now 1 (own t ∷ t.view.kept)
+  grown : HasTakenIn g (λ n. n ≡ old.view.next) old now 1 (own t ∷ t.view.kept)
   grown = grown_joined g (λ n. n ≡ old.view.next) old mid now t 1 [] gave comes table step on from
 
   owed_is : now.view.dues.owed ≡ rest_of rest old.view.dues.owed ++ t.view.dues.owed
@@ -67,23 +67,23 @@ module _ (g : GraphValue) (old mid child t now : SeatValue) (benches : List Benc
 
   owes : (d : ℕ) → Contains old.view.dues.owed d ⊎ HasCell c.got d → Contains now.view.dues.owed d
   owes d (inl h) = elim (has_or_not rest d) [
-    | inl here ↦ came d (c.worked.owes d (inl (subst (λ (v : View). Contains v.dues.owed d) (sym child_is) (part_has (is_member nat_eq rest) old.view.dues.owed d h (into rest d here)))))
+    | inl here ↦ came d (c.worked.owes d (inl (subst (λ (v : View). Contains v.dues.owed d) (sym child_is) (filter_keeps (is_member nat_eq rest) old.view.dues.owed d h (into rest d here)))))
     | inr none ↦ subst (λ (l : List ℕ). Contains l d) (sym owed_is) (Contains-append_left (rest_of rest old.view.dues.owed) t.view.dues.owed d (rest_has rest old.view.dues.owed d h none))
   ]
   owes d (inr h) = came d (c.worked.owes d (inr h))
 
-  ended : (before full : Option ℕ) → GoesOn before g t full → FinishedWith g old now rest (own t ∷ t.view.kept) before full
+  ended : (before full : Option ℕ) → GoesOn before g t full → RestEndedWith g old now rest (own t ∷ t.view.kept) before full
   ended None None waits = (
-    ap (λ (v : View). v.dues.unpaid) step.is ∙ ap₂ (λ (k l : List ℕ). k ++ l) (ap (λ (v : View). v.dues.unpaid) mid_is) (nothing t.view.dues.unpaid (λ d h. none_in d (waits.no_other d h))) ∙ append-nil (rest_of rest old.view.dues.unpaid),
+    ap (λ (v : View). v.dues.unpaid) step.is ∙ ap₂ (λ (k l : List ℕ). k ++ l) (ap (λ (v : View). v.dues.unpaid) mid_is) (nothing t.view.dues.unpaid (λ d h. nothing_in d (waits.no_other d h))) ∙ append-nil (rest_of rest old.view.dues.unpaid),
     λ d h. elim (Contains-append_cases (rest_of rest old.view.dues.owed) t.view.dues.owed d (subst (λ (l : List ℕ). Contains l d) owed_is h)) [
       | inl l ↦ inl l
-      | inr r ↦ elim (waits.covered d r) [ inl whole ↦ inr (whole_later g.world t.view.front now.view.front d from whole) | inr none ↦ absurd (none_in d none) ]
+      | inr r ↦ elim (waits.covered d r) [ inl whole ↦ inr (whole_later g.world t.view.front now.view.front d from whole) | inr none ↦ absurd (nothing_in d none) ]
     ],
   )
-  ended None (Some x) found = spent_wider (λ n. n ≡ old.view.next) (λ n. n ≡ old.view.next) [] (own t ∷ []) t.view.kept t.view.front now.view.front x (λ n m. m) from (own t, first_in (own t) [], comes.mine, found)
+  ended None (Some x) found = spent_wider (λ n. n ≡ old.view.next) (λ n. n ≡ old.view.next) [] (own t ∷ []) t.view.kept t.view.front now.view.front x (λ n m. m) from (own t, in_first (own t) [], comes.mine, found)
   ended (Some x) full is = is
 
-  pub has_finished : (before full : Option ℕ) → GoesOn before g t full → HasFinished g old now benches rest before full
+  pub has_finished : (before full : Option ℕ) → GoesOn before g t full → HasDrawnRest g old now benches rest before full
   has_finished before full goes = record {
     news = own t ∷ t.view.kept;
     grown = grown;
@@ -126,7 +126,7 @@ still_unpaid g old mid starts benches full rest c unpaid none d h =
 
 -- how a growth ends
 module _ {J : Type 0} (g : GraphValue) (old mid now : SeatValue) (starts : List (Start J)) (benches home : List BenchValue) (rest : List ℕ) (full last : Option ℕ) (c : HasCollected g old mid starts benches full)
-    (h : AreGathered benches home) (f : HasFinished g mid now home rest full last) where
+    (h : AreGathered benches home) (f : HasDrawnRest g mid now home rest full last) where
   pushed_is : all_pushed home ≡ all_pushed benches
   pushed_is = pushed_same benches home h.many h.each
 
@@ -156,7 +156,7 @@ module _ {J : Type 0} (g : GraphValue) (old mid now : SeatValue) (starts : List 
     ],
   )
 
-  both_ended : (full last : Option ℕ) → HasEnded (IsPaidUp g old.view.dues.owed old.view.dues.unpaid mid) (IsSpentBy (IsNumberOf starts) c.news mid.view.front) full → FinishedWith g mid now rest f.news full last
+  both_ended : (full last : Option ℕ) → HasEnded (IsPaidUp g old.view.dues.owed old.view.dues.unpaid mid) (IsSpentBy (IsNumberOf starts) c.news mid.view.front) full → RestEndedWith g mid now rest f.news full last
       → HasEnded (IsPaidUp g (rest_of rest old.view.dues.owed) (rest_of rest old.view.dues.unpaid) now) (IsSpentBy (IsNumberIn starts old.view) (c.news ++ f.news) now.view.front) last
   both_ended None None before after = paid before after
   both_ended None (Some x) before after = spent_last x after

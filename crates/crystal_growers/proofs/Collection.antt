@@ -3,9 +3,9 @@ use Rattle.std.proofs.Common.{◌≡◌, refl, sym, ap, ap₂, subst, ◌∙◌,
 use Rattle.std.proofs.lemmas.Bool.{cases_lt}
 use Rattle.std.proofs.lemmas.List.{drop_more, drop_all, length_push, get_or_append_left, get_or_push, get_or_default}
 use Rattle.std.proofs.lemmas.List.Elements.{Contains-get_or, Contains-append_left, Contains-append_right, Contains-append_cases}
+use Rattle.list_facts.proofs.Lists.{nothing_in, in_first, nothing}
 use Rattle.graph_history.specs.declared.event.Act.TheVariants.{Spent}
-use Rattle.graph_history.specs.declared.view.Kept.{Kept}
-use Rattle.graph_history.specs.declared.view.View.{View}
+use Rattle.graph_history.specs.Views.{View, Kept}
 use Rattle.graph_rule.specs.Rule.{IsPrefix, IsKnown}
 use Rattle.graph_rule.specs.Told.{Advances}
 use Rattle.graph_rule.specs.Parting.{joined}
@@ -17,16 +17,14 @@ use Rattle.parcel_deques.specs.Benches.{BenchValue}
 use Rattle.parcel_deques.specs.Making.{IsApart}
 use Rattle.parcel_deques.specs.Gather.{all_taken}
 use Rattle.parcel_deques.proofs.Weights.{weigh-append}
-use Rattle.crystal_growers.specs.declared.work.Ending.{Ending}
-use Rattle.crystal_growers.specs.declared.work.Ending.TheVariants.{Done, NoMemory}
-use Rattle.crystal_growers.specs.declared.work.Ending.TheVariants.{Spent as SpentEnding}
-use Rattle.crystal_growers.specs.declared.work.Start.{Start}
-use Rattle.crystal_growers.specs.declared.work.Shift.{Shift}
-use Rattle.crystal_growers.specs.Growth.{HasEnded}
+use Rattle.crystal_growers.specs.declared.grower.Ending.{Ending}
+use Rattle.crystal_growers.specs.declared.grower.Ending.TheVariants.{Done, NoMemory, Spent as SpentEnding}
+use Rattle.crystal_growers.specs.declared.grower.Start.{Start}
+use Rattle.crystal_growers.specs.declared.grower.Shift.{Shift}
+use Rattle.crystal_growers.specs.Expansion.{HasEnded}
 use Rattle.crystal_growers.specs.Slips.{slip_stakes, HasCell, all_pushed}
-use Rattle.crystal_growers.specs.Workers.{HasStopped, IsFullAfter, IsShift}
-use Rattle.crystal_growers.specs.Gather.{IsStart, AreStarts, worth, starting_slips, HasGrown, HasNumber, IsSpentBy, IsNumberOf, IsPaidUp, AreShifts, HasCollected}
-use Rattle.crystal_growers.proofs.Parts.{none_in, first_in}
+use Rattle.crystal_growers.specs.Grower.{HasStopped, IsFullAfter, IsShift}
+use Rattle.crystal_growers.specs.Gathering.{IsStart, AreStarts, worth, starting_slips, HasTakenIn, HasNumber, IsSpentBy, IsNumberOf, IsPaidUp, AreShifts, HasCollected}
 use Rattle.crystal_growers.proofs.SlipCells.{no_cell, cell_front, cell_back, cell_or, same_cells}
 use Rattle.crystal_growers.proofs.DrawnCells.{whole_later}
 use Rattle.crystal_growers.proofs.Coming.{IsComing, coming, own, grown_gave, grown_joined, spent_wider}
@@ -40,14 +38,10 @@ pub taken_push : (bs : List BenchValue) (b : BenchValue) → all_taken (bs ++ b 
 taken_push [] b = append-nil b.taken
 taken_push (c ∷ bs) b = ap (λ (l : List Slip). c.taken ++ l) (taken_push bs b) ∙ sym (append_assoc c.taken (all_taken bs) b.taken)
 
-pub nothing : (l : List ℕ) → ((c : ℕ) → Contains l c → ⊥) → l ≡ []
-nothing [] none = refl
-nothing (c ∷ l) none = absurd (none c (first_in c l))
-
 -- the seats of the first growers were taken in
 pub record IsCollecting {J : Type 0} (g : GraphValue) (first now : SeatValue) (starts : List (Start J)) (call : List DequeId) (benches : List BenchValue) (k : ℕ) (full : Option ℕ) : Type 0 where
   pub news : List Kept
-  pub grown : HasGrown g (IsNumberOf starts) first now 0 news
+  pub grown : HasTakenIn g (IsNumberOf starts) first now 0 news
   pub keeps : (i : ℕ) (d : Start J) → i < k → HasNumber news (get_or starts i d).seat.view.number
   pub within : k ≤ length starts
   pub live : k < now.view.stake
@@ -64,7 +58,7 @@ collecting_none g s starts belongs known pledge are = record {
   grown = grown_gave g (IsNumberOf starts) s s 0 belongs refl (λ i. record s.view { next = next i; left = left i }) known pledge;
   keeps = λ i d below. absurd (omega arith);
   within = omega arith;
-  live = known.live;
+  live = known.sound.live;
   count = refl;
   apart = λ i d below. absurd (omega arith);
   stake = omega arith;
@@ -116,7 +110,7 @@ module _ {J : Type 0} (g : GraphValue) (first mid now : SeatValue) (starts : Lis
   comes : IsComing g (IsNumberOf starts) first.view.front t.seat
   comes = coming g (IsNumberOf starts) first.view.front s.seat t.seat h.working.got h.working.given start.known start.calls_are start.kept start.front_is number_of h.working.worked.acted
 
-  grown : HasGrown g (IsNumberOf starts) first now 0 (p.news ++ own t.seat ∷ t.seat.view.kept)
+  grown : HasTakenIn g (IsNumberOf starts) first now 0 (p.news ++ own t.seat ∷ t.seat.view.kept)
   grown = grown_joined g (IsNumberOf starts) first mid now t.seat 0 p.news p.grown comes table step on from
 
   rest_is : drop k starts ≡ s ∷ drop (k + 1) starts
@@ -188,7 +182,7 @@ module _ {J : Type 0} (g : GraphValue) (first mid now : SeatValue) (starts : Lis
     | inl before ↦ let m = p.keeps i d before in (m.0, Contains-append_left p.news (own t.seat ∷ t.seat.view.kept) m.0 m.1, m.2)
     | inr at ↦ let same : k ≡ i = omega arith in (
       own t.seat,
-      Contains-append_right p.news (own t.seat ∷ t.seat.view.kept) (own t.seat) (first_in (own t.seat) t.seat.view.kept),
+      Contains-append_right p.news (own t.seat ∷ t.seat.view.kept) (own t.seat) (in_first (own t.seat) t.seat.view.kept),
       h.working.worked.acted.number ∙ ap (λ (u : Start J). u.seat.view.number) (sym is ∙ get_or_default starts k s d below ∙ ap (λ (n : ℕ). get_or starts n d) same),
     )
   ]
@@ -200,14 +194,14 @@ module _ {J : Type 0} (g : GraphValue) (first mid now : SeatValue) (starts : Lis
       spent_before x found = spent_wider (IsNumberOf starts) (IsNumberOf starts) [] p.news (own t.seat ∷ t.seat.view.kept) mid.view.front now.view.front x (λ n m. m) on found
 
       spent_here : (x : ℕ) → Contains t.seat.view.front (record { caller = t.seat.view.number; act = Spent x }) → IsSpentBy (IsNumberOf starts) (p.news ++ own t.seat ∷ t.seat.view.kept) now.view.front x
-      spent_here x found = spent_wider (IsNumberOf starts) (IsNumberOf starts) p.news (own t.seat ∷ []) t.seat.view.kept t.seat.view.front now.view.front x (λ n m. m) from (own t.seat, first_in (own t.seat) [], comes.mine, found)
+      spent_here x found = spent_wider (IsNumberOf starts) (IsNumberOf starts) p.news (own t.seat ∷ []) t.seat.view.kept t.seat.view.front now.view.front x (λ n m. m) from (own t.seat, in_first (own t.seat) [], comes.mine, found)
 
       paid : IsPaidUp g first.view.dues.owed first.view.dues.unpaid mid → HasStopped g t.seat t.bench Done → IsPaidUp g first.view.dues.owed first.view.dues.unpaid now
       paid (unpaid, owed) (waits, empty) = (
-        ap (λ (v : View). v.dues.unpaid) step.is ∙ ap₂ (λ (k l : List ℕ). k ++ l) unpaid (nothing t.seat.view.dues.unpaid (λ c there. none_in c (waits.no_other c there))) ∙ append-nil first.view.dues.unpaid,
+        ap (λ (v : View). v.dues.unpaid) step.is ∙ ap₂ (λ (k l : List ℕ). k ++ l) unpaid (nothing t.seat.view.dues.unpaid (λ c there. nothing_in c (waits.no_other c there))) ∙ append-nil first.view.dues.unpaid,
         λ c there. elim (Contains-append_cases mid.view.dues.owed t.seat.view.dues.owed c (subst (λ (l : List ℕ). Contains l c) dues_owed there)) [
           | inl l ↦ elim (owed c l) [ inl before ↦ inl before | inr whole ↦ inr (whole_later g.world mid.view.front now.view.front c on whole) ]
-          | inr r ↦ elim (waits.covered c r) [ inl whole ↦ inr (whole_later g.world t.seat.view.front now.view.front c from whole) | inr none ↦ absurd (none_in c none) ]
+          | inr r ↦ elim (waits.covered c r) [ inl whole ↦ inr (whole_later g.world t.seat.view.front now.view.front c from whole) | inr none ↦ absurd (nothing_in c none) ]
         ],
       )
 
@@ -224,7 +218,7 @@ module _ {J : Type 0} (g : GraphValue) (first mid now : SeatValue) (starts : Lis
     grown = grown;
     keeps = keeps;
     within = omega arith;
-    live = let e : now.view.stake ≡ mid.view.stake + t.seat.view.stake = ap (λ (v : View). v.stake) step.is in let before = p.live in let one = h.working.worked.acted.known.live in omega arith;
+    live = let e : now.view.stake ≡ mid.view.stake + t.seat.view.stake = ap (λ (v : View). v.stake) step.is in let before = p.live in let one = h.working.worked.acted.known.sound.live in omega arith;
     count = length_push benches t.bench ∙ ap (λ (n : ℕ). n + 1) p.count;
     apart = apart;
     stake = stake;

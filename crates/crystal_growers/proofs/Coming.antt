@@ -1,22 +1,21 @@
 -- A seat that gives numbers away and takes growers in.
 use Rattle.std.proofs.Common.{◌≡◌, refl, sym, ap, ap₂, subst, ◌∙◌, ℕ, ◌+◌, ◌-◌, ◌⊎◌, inl, inr, List, [], ◌∷◌, ◌++◌, Contains, append-nil, append_assoc, arith}
 use Rattle.std.proofs.lemmas.List.Elements.{Contains-append_left, Contains-append_right, Contains-append_cases}
+use Rattle.list_facts.proofs.Lists.{nothing_in, in_cons}
 use Rattle.graph_history.specs.declared.event.Act.TheVariants.{Spent}
 use Rattle.graph_history.specs.declared.event.Event.{Event}
-use Rattle.graph_history.specs.declared.view.Kept.{Kept}
-use Rattle.graph_history.specs.declared.view.View.{View}
+use Rattle.graph_history.specs.Views.{View, Kept}
 use Rattle.graph_history.specs.History.{calls}
 use Rattle.graph_rule.specs.Rule.{IsPrefix, IsKnown}
 use Rattle.graph_rule.specs.Told.{Advances}
 use Rattle.graph_rule.specs.Parting.{joined}
 use Rattle.graph_rule.specs.Values.{GraphValue, SeatValue, Belongs}
-use Rattle.graph_rule.proofs.Views.{prefix_self, prefix_on}
+use Rattle.shared_seats.proofs.Fronts.{prefix_self, prefix_on}
 use Rattle.parcel_deques.specs.declared.parcel.Slip.{Slip}
-use Rattle.crystal_growers.specs.Growth.{Grew}
-use Rattle.crystal_growers.specs.Shifts.{HasActed}
-use Rattle.crystal_growers.specs.Gather.{CameBack, HasGrown, IsSpentBy}
-use Rattle.crystal_growers.specs.Grow.{IsLost}
-use Rattle.crystal_growers.proofs.Parts.{none_in, head_or}
+use Rattle.crystal_growers.specs.GrowthEvents.{Grew}
+use Rattle.crystal_growers.specs.Grower.{HasActed}
+use Rattle.crystal_growers.specs.Gathering.{CameBack, HasTakenIn, IsSpentBy}
+use Rattle.crystal_growers.specs.Growth.{IsLost}
 use Rattle.crystal_growers.proofs.Histories.{came_on, came_before, came_quiet}
 
 -- a view by its parts
@@ -28,7 +27,7 @@ grown_view v w used news a b c d e f = λ i. record { world = a i; number = b i;
 abbrev pub Gave : View → View → ℕ → Type 0
 Gave v w used = w ≡ record v { next = v.next + used; left = v.left - used; stake = w.stake; dues = w.dues }
 
-pub grown_gave : (g : GraphValue) (these : ℕ → Type 0) (old now : SeatValue) (used : ℕ) → Belongs old g → now.table ≡ old.table → Gave old.view now.view used → IsKnown now.view → now.view.dues.pledge ≡ 0 → HasGrown g these old now used []
+pub grown_gave : (g : GraphValue) (these : ℕ → Type 0) (old now : SeatValue) (used : ℕ) → Belongs old g → now.table ≡ old.table → Gave old.view now.view used → IsKnown now.view → now.view.dues.pledge ≡ 0 → HasTakenIn g these old now used []
 grown_gave g these old now used belongs table is known free = record {
   belongs = record { table = table ∙ belongs.table; world = ap (λ (v : View). v.world) is ∙ belongs.world };
   is = grown_view old.view now.view used [] (ap (λ (v : View). v.world) is) (ap (λ (v : View). v.number) is) (ap (λ (v : View). v.calls) is) (ap (λ (v : View). v.kept) is ∙ sym (append-nil old.view.kept))
@@ -36,13 +35,13 @@ grown_gave g these old now used belongs table is known free = record {
   known = known;
   pledge = free;
   front = subst (λ (f : List Event). IsPrefix old.view.front f) (sym (ap (λ (v : View). v.front) is)) (prefix_self old.view.front);
-  came = λ m h. absurd (none_in m h);
-  within = λ m h. absurd (none_in m h);
+  came = λ m h. absurd (nothing_in m h);
+  within = λ m h. absurd (nothing_in m h);
 }
 
 -- one number more is kept
 pub kept_or : (news : List Kept) (m : Kept) (P : Kept → Type 0) → ((k : Kept) → Contains news k → P k) → P m → (k : Kept) → Contains (m ∷ news) k → P k
-kept_or news m P old this k h = elim (head_or m news k h) [ inl e ↦ subst P e this | inr rest ↦ old k rest ]
+kept_or news m P old this k h = elim (in_cons m news k h) [ inl e ↦ subst P e this | inr rest ↦ old k rest ]
 
 pub kept_both : (xs ys : List Kept) (P : Kept → Type 0) → ((k : Kept) → Contains xs k → P k) → ((k : Kept) → Contains ys k → P k) → (k : Kept) → Contains (xs ++ ys) k → P k
 kept_both xs ys P p q k h = elim (Contains-append_cases xs ys k h) [ inl l ↦ p k l | inr r ↦ q k r ]
@@ -64,7 +63,7 @@ coming g these first s t got given known none alone front mine a = record {
   belongs = a.belongs;
   known = a.known;
   pledge = a.pledge;
-  none = subst (λ (n : ℕ). calls first n ≡ []) (sym a.number) (subst (λ (f : List Event). calls f s.view.number ≡ []) front (known.agrees.own.mine ∙ none));
+  none = subst (λ (n : ℕ). calls first n ≡ []) (sym a.number) (subst (λ (f : List Event). calls f s.view.number ≡ []) front (known.sound.agrees.own.mine ∙ none));
   grew = subst (λ (n : ℕ). Grew g.world n first t.view.front) (sym a.number) (subst (λ (f : List Event). Grew g.world s.view.number f t.view.front) front a.grew);
   quiet = λ m h. a.quiet m (subst (λ (l : List Kept). Contains l m) (a.kept ∙ ap (λ (l : List Kept). l ++ a.news) alone) h);
   mine = subst these (sym a.number) mine;
@@ -75,9 +74,9 @@ abbrev pub own : SeatValue → Kept
 own s = record { number = s.view.number; calls = s.view.calls }
 
 -- it joined
-module _ (g : GraphValue) (these : ℕ → Type 0) (first mid now s : SeatValue) (used : ℕ) (news : List Kept) (p : HasGrown g these first mid used news) (c : IsComing g these first.view.front s)
+module _ (g : GraphValue) (these : ℕ → Type 0) (first mid now s : SeatValue) (used : ℕ) (news : List Kept) (p : HasTakenIn g these first mid used news) (c : IsComing g these first.view.front s)
     (table : now.table ≡ mid.table) (step : Advances (joined mid.view s.view) now.view [] (joined mid.view s.view).dues) (on : IsPrefix mid.view.front now.view.front) (from : IsPrefix s.view.front now.view.front) where
-  pub grown_joined : HasGrown g these first now used (news ++ own s ∷ s.view.kept)
+  pub grown_joined : HasTakenIn g these first now used (news ++ own s ∷ s.view.kept)
   grown_joined = record {
     belongs = record { table = table ∙ p.belongs.table; world = ap (λ (v : View). v.world) step.is ∙ p.belongs.world };
     is = grown_view first.view now.view used (news ++ own s ∷ s.view.kept) (ap (λ (v : View). v.world) step.is ∙ ap (λ (v : View). v.world) p.is) (ap (λ (v : View). v.number) step.is ∙ ap (λ (v : View). v.number) p.is)
@@ -89,13 +88,13 @@ module _ (g : GraphValue) (these : ℕ → Type 0) (first mid now s : SeatValue)
     front = prefix_on first.view.front mid.view.front now.view.front p.front on;
     came = kept_both news (own s ∷ s.view.kept) (CameBack g.world first.view.front now.view.front) (λ k h. came_on g.world first.view.front mid.view.front now.view.front k on (p.came k h))
         (kept_or s.view.kept (own s) (CameBack g.world first.view.front now.view.front)
-        (λ k h. came_quiet g.world first.view.front s.view.front now.view.front k (c.grew.more, c.grew.is) from (c.known.agrees.own.kept k h) (c.quiet k h))
-        (record { none = c.none; back = s.view.front; grew = c.grew; all = c.known.agrees.own.mine; ends = from }));
+        (λ k h. came_quiet g.world first.view.front s.view.front now.view.front k (c.grew.more, c.grew.is) from (c.known.sound.agrees.own.kept k h) (c.quiet k h))
+        (record { none = c.none; back = s.view.front; grew = c.grew; all = c.known.sound.agrees.own.mine; ends = from }));
     within = kept_both news (own s ∷ s.view.kept) (λ k. these k.number ⊎ (k.calls ≡ [])) p.within (kept_or s.view.kept (own s) (λ k. these k.number ⊎ (k.calls ≡ [])) (λ k h. inr (c.quiet k h)) (inl c.mine));
   }
 
 -- more numbers may be meant
-pub grown_wider : (g : GraphValue) (these those : ℕ → Type 0) (old now : SeatValue) (used : ℕ) (news : List Kept) → ((n : ℕ) → these n → those n) → HasGrown g these old now used news → HasGrown g those old now used news
+pub grown_wider : (g : GraphValue) (these those : ℕ → Type 0) (old now : SeatValue) (used : ℕ) (news : List Kept) → ((n : ℕ) → these n → those n) → HasTakenIn g these old now used news → HasTakenIn g those old now used news
 grown_wider g these those old now used news wider p = record {
   belongs = p.belongs;
   is = p.is;
@@ -106,7 +105,7 @@ grown_wider g these those old now used news wider p = record {
   within = λ m h. elim (p.within m h) [ inl l ↦ inl (wider m.number l) | inr quiet ↦ inr quiet ];
 }
 
-pub grown_then : (g : GraphValue) (these : ℕ → Type 0) (old mid now : SeatValue) (a b used : ℕ) (news more : List Kept) → used ≡ a + b → HasGrown g these old mid a news → HasGrown g these mid now b more → HasGrown g these old now used (news ++ more)
+pub grown_then : (g : GraphValue) (these : ℕ → Type 0) (old mid now : SeatValue) (a b used : ℕ) (news more : List Kept) → used ≡ a + b → HasTakenIn g these old mid a news → HasTakenIn g these mid now b more → HasTakenIn g these old now used (news ++ more)
 grown_then g these old mid now a b used news more sum p q = record {
   belongs = q.belongs;
   is = grown_view old.view now.view used (news ++ more) (ap (λ (v : View). v.world) q.is ∙ ap (λ (v : View). v.world) p.is) (ap (λ (v : View). v.number) q.is ∙ ap (λ (v : View). v.number) p.is)
@@ -150,7 +149,7 @@ lost_both a b c p q = record {
   pledge = q.pledge ∙ p.pledge;
 }
 
-pub lost_grown : (g : GraphValue) (these : ℕ → Type 0) (old now : SeatValue) (used : ℕ) (news : List Kept) → old.table ≡ g.table → old.view.dues.pledge ≡ 0 → HasGrown g these old now used news → IsLost old now
+pub lost_grown : (g : GraphValue) (these : ℕ → Type 0) (old now : SeatValue) (used : ℕ) (news : List Kept) → old.table ≡ g.table → old.view.dues.pledge ≡ 0 → HasTakenIn g these old now used news → IsLost old now
 lost_grown g these old now used news table pledge p = record {
   table = p.belongs.table ∙ sym table;
   world = ap (λ (v : View). v.world) p.is;

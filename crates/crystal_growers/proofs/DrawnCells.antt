@@ -4,13 +4,15 @@ use Rattle.std.specs.List.{IsDistinct}
 use Rattle.std.proofs.Math.Nat.{mul-le-mul_right}
 use Rattle.std.proofs.lemmas.List.{take-append-drop, drop_more}
 use Rattle.std.proofs.lemmas.List.Elements.{Contains-get_or, All-nil, All-contains, All-push, All-weaker, All-contains_itself, Contains-append_left, Contains-append_right, Contains-append_cases}
+use Rattle.graph_history.proofs.Growing.{added_cells-append}
+use Rattle.list_facts.proofs.Lists.{nothing_in, in_first, in_rest, in_cons, nothing}
 use Rattle.crystal_cartan.specs.declared.types.Arrow.{Arrow}
 use Rattle.tensor_words.specs.Worlds.{WorldType}
 use Rattle.graph_history.specs.declared.answer.Look.{Look}
 use Rattle.graph_history.specs.declared.event.Act.{Act}
 use Rattle.graph_history.specs.declared.event.Act.TheVariants.{Spent, Settled}
 use Rattle.graph_history.specs.declared.event.Event.{Event}
-use Rattle.graph_history.specs.declared.view.View.{View}
+use Rattle.graph_history.specs.Views.{View}
 use Rattle.graph_history.specs.History.{state_of, HasSome, IsWhole, IsLegal}
 use Rattle.graph_history.proofs.CellLists.{keep_all}
 use Rattle.graph_history.specs.Desks.{by, without, Standing, Goes, Does, look_acts, added_cells}
@@ -19,14 +21,14 @@ use Rattle.graph_rule.specs.Rule.{IsPrefix, IsKnown, IsComplete}
 use Rattle.graph_rule.specs.Values.{GraphValue, SeatValue}
 use Rattle.graph_rule.proofs.Composing.{went_grows}
 use Rattle.graph_rule.proofs.Views.{stays_prefix, some_prefix, whole_stays}
-use Rattle.crystal_growers.specs.declared.rows.Spent.{Spent as SpentAnswer}
-use Rattle.crystal_growers.specs.SharedDesks.{DeskValue, standing_of, Worked}
-use Rattle.crystal_growers.specs.Expanding.{IsGrowthAct, taken_back, Expanded}
-use Rattle.crystal_growers.specs.Growth.{Grew, AreWhole, HasEnded, rest_of, IsPaid, Expansions}
-use Rattle.crystal_growers.specs.Work.{CanDraw, HasDrawn}
-use Rattle.crystal_growers.proofs.SharedSteps.{added_cells-append, look_quiet, worked_none, worked_then, worked_world, worked_belongs}
+use Rattle.crystal_growers.specs.declared.expansion.Spent.{Spent as SpentAnswer}
+use Rattle.shared_desk.specs.SharedDesks.{DeskValue, standing_of, Worked}
+use Rattle.crystal_growers.specs.Expansion.{IsGrowthAct, taken_back, Expanded, AreWhole, HasEnded, rest_of, IsPaid, Expansions}
+use Rattle.crystal_growers.specs.GrowthEvents.{Grew}
+use Rattle.crystal_growers.specs.Drawing.{CanDraw, HasDrawn}
+use Rattle.shared_desk.proofs.SharedSteps.{look_quiet, worked_none, worked_then, worked_world, worked_belongs}
 use Rattle.crystal_growers.proofs.ExpandSteps.{step_run, looked_growth}
-use Rattle.crystal_growers.proofs.Parts.{none_in, first_in, later_in, head_or, rest_has, rest_on, rest_append, rest_same, without_is, distinct_split}
+use Rattle.crystal_growers.proofs.Parts.{rest_has, rest_on, rest_append, rest_same, without_is, distinct_split}
 use Rattle.crystal_growers.proofs.Histories.{never_added, acts_same, grew_none, grew_then, grew_by}
 
 -- whole vertices stay whole in longer fronts
@@ -49,7 +51,7 @@ paid_then xs ys old mid new added more None is apart paid =
 paid_then xs ys old mid new added more (Some x) is apart paid = tt
 
 pub only : (c d : ℕ) → Contains (c ∷ []) d → c ≡ d
-only c d h = elim (head_or c [] d h) [ inl e ↦ e | inr none ↦ absurd (none_in d none) ]
+only c d h = elim (in_cons c [] d h) [ inl e ↦ e | inr none ↦ absurd (nothing_in d none) ]
 
 module _ {Bond : Type 0} where
   pub expansions_none : (s : Standing Bond) (cells : List ℕ) → cells ≡ [] → IsLegal s.world s.front → Expansions s s cells None
@@ -58,7 +60,7 @@ module _ {Bond : Type 0} where
     goes = goes_within s s 0 (length cells * (2 * s.world.space.cartan.rank)) [] (omega arith) (goes_still s legal);
     grew = grew_none s.world s.caller s.front;
     paid = sym (ap (λ (l : List ℕ). rest_of l s.unpaid ++ []) none ∙ append-nil (rest_of [] s.unpaid) ∙ keep_all s.unpaid);
-    ended = λ c h. absurd (none_in c (subst (λ (l : List ℕ). Contains l c) none h));
+    ended = λ c h. absurd (nothing_in c (subst (λ (l : List ℕ). Contains l c) none h));
   }
 
   -- one cell was drawn, and paid for
@@ -89,7 +91,7 @@ module _ {Bond : Type 0} where
     grew = grew_by old.world old.caller c f.code old.front new.front f.acts f.run.goes.grows f.there f.run.growth;
     paid = tt;
     ended = subst (λ (l : List Act). Contains l (Spent e.code)) (sym f.ended.is)
-        (Contains-append_right f.ended.before (Spent e.code ∷ taken_back f.ended.owed) (Spent e.code) (first_in (Spent e.code) (taken_back f.ended.owed)));
+        (Contains-append_right f.ended.before (Spent e.code ∷ taken_back f.ended.owed) (Spent e.code) (in_first (Spent e.code) (taken_back f.ended.owed)));
   }
 
   -- further cells, all of which were vertices before
@@ -130,7 +132,7 @@ module _ {Bond : Type 0} where
     goes = goes_within old new 0 (length {A = ℕ} [] * (2 * old.world.space.cartan.rank)) [] (omega arith) g;
     grew = grew_by old.world old.caller c y old.front new.front [] g.grows there (All-nil (IsGrowthAct old.world.space c y));
     paid = g.unpaid ∙ sym (keep_all old.unpaid) ∙ sym (append-nil (rest_of [] old.unpaid));
-    ended = λ e h. absurd (none_in e h);
+    ended = λ e h. absurd (nothing_in e h);
   }
 
   looked : (old new : Standing Bond) (c : ℕ) (a : Arrow) (answer : Look) → HasSome (state_of old.front) c → Does old new 0 (look_acts c a answer) → Expansions old new [] None
@@ -141,7 +143,7 @@ module _ {Bond : Type 0} where
         goes = goes_within old new 0 (length {A = ℕ} [] * (2 * old.world.space.cartan.rank)) (look_acts c a answer) (omega arith) d.goes;
         grew = grew_by old.world old.caller c y old.front new.front (look_acts c a answer) d.goes.grows there run.growth;
         paid = run.unpaid ∙ ap (λ (l : List ℕ). l ++ added_cells (look_acts c a answer)) (sym (keep_all old.unpaid));
-        ended = λ e h. absurd (none_in e h);
+        ended = λ e h. absurd (nothing_in e h);
       }
 
   pub goes_there : (old new : Standing Bond) (c places : ℕ) (acts : List Act) → HasSome (state_of old.front) c → Goes old new places acts → HasSome (state_of new.front) c
@@ -157,8 +159,8 @@ module _ {Bond : Type 0} where
       let still : HasSome (state_of word.front) c = goes_there mid word c 0 [] some g in
       let last : HasSome (state_of first.front) c = goes_there word first c 0 (look_acts c a one) still d.goes in
       expansions_then old first new [] [] None
-      (expansions_then old mid first [] [] None e (expansions_then mid word first [] [] None (read_word mid word c some g) (looked word first c a one still d) (λ k h. absurd (none_in k h))) (λ k h. absurd (none_in k h)))
-      (looked first new c b two last f) (λ k h. absurd (none_in k h))
+      (expansions_then old mid first [] [] None e (expansions_then mid word first [] [] None (read_word mid word c some g) (looked word first c a one still d) (λ k h. absurd (nothing_in k h))) (λ k h. absurd (nothing_in k h)))
+      (looked first new c b two last f) (λ k h. absurd (nothing_in k h))
 
 -- the next cell of a list is still unpaid
 pub pay_there : {Bond : Type 0} (old mid drawn : Standing Bond) (cells : List ℕ) (i : ℕ) → IsDistinct nat_eq cells → i < length cells → Expansions old mid (take i cells) None
@@ -167,7 +169,7 @@ pay_there old mid drawn cells i once below e f unpaid =
     let c : ℕ = get_or cells i 0 in
     let split : cells ≡ take i cells ++ c ∷ drop (i + 1) cells = sym (take-append-drop i cells) ∙ ap (λ (l : List ℕ). take i cells ++ l) (drop_more cells i 0 below) in
     let apart = distinct_split (take i cells) (c ∷ drop (i + 1) cells) (subst (λ (l : List ℕ). IsDistinct nat_eq l) split once) in
-    let left : Contains (rest_of (take i cells) old.unpaid) c = rest_has (take i cells) old.unpaid c (unpaid c (Contains-get_or cells i 0 below)) (λ here. apart.2 c here (first_in c (drop (i + 1) cells))) in
+    let left : Contains (rest_of (take i cells) old.unpaid) c = rest_has (take i cells) old.unpaid c (unpaid c (Contains-get_or cells i 0 below)) (λ here. apart.2 c here (in_first c (drop (i + 1) cells))) in
     let before : Contains mid.unpaid c = subst (λ (l : List ℕ). Contains l c) (sym e.paid) (Contains-append_left (rest_of (take i cells) old.unpaid) (added_cells e.acts) c left) in
     subst (λ (l : List ℕ). Contains l c) (sym f.run.unpaid) (Contains-append_left mid.unpaid (added_cells f.acts) c before)
 
@@ -206,7 +208,7 @@ drawn_none s cells none known complete pledge = record {
   listed = refl;
   grew = grew_none s.view.world s.view.number s.view.front;
   paid = sym (ap (λ (l : List ℕ). rest_of l s.view.dues.unpaid ++ []) none ∙ append-nil (rest_of [] s.view.dues.unpaid) ∙ keep_all s.view.dues.unpaid);
-  ended = λ c h. absurd (none_in c (subst (λ (l : List ℕ). Contains l c) none h));
+  ended = λ c h. absurd (nothing_in c (subst (λ (l : List ℕ). Contains l c) none h));
 }
 
 module _ (g : GraphValue) (old mid now : SeatValue) (xs ys : List ℕ) (added : List ℕ) where
@@ -254,8 +256,8 @@ drawn_part g old mid now xs ys rest added more cells x is can p q =
 
 -- the events of acts
 pub by_has : (n : ℕ) (acts : List Act) (a : Act) → Contains acts a → Contains (by n acts) (record { caller = n; act = a })
-by_has n [] a h = absurd (none_in a h)
-by_has n (x ∷ acts) a h = elim (head_or x acts a h) [
-  | inl e ↦ subst (λ (y : Act). Contains (by n (x ∷ acts)) (record { caller = n; act = y })) e (first_in (record { caller = n; act = x }) (by n acts))
-  | inr rest ↦ later_in (record { caller = n; act = x }) (by n acts) (record { caller = n; act = a }) (by_has n acts a rest)
+by_has n [] a h = absurd (nothing_in a h)
+by_has n (x ∷ acts) a h = elim (in_cons x acts a h) [
+  | inl e ↦ subst (λ (y : Act). Contains (by n (x ∷ acts)) (record { caller = n; act = y })) e (in_first (record { caller = n; act = x }) (by n acts))
+  | inr rest ↦ in_rest (record { caller = n; act = x }) (by n acts) (record { caller = n; act = a }) (by_has n acts a rest)
 ]

@@ -3,22 +3,24 @@ use Rattle.std.proofs.Common.{◌≡◌, refl, sym, ap, subst, ◌∙◌, ℕ, �
 use Rattle.std.specs.List.{IsDistinct}
 use Rattle.std.proofs.lemmas.List.{append_cancel_left}
 use Rattle.std.proofs.lemmas.List.Elements.{All-weaker, All-contains_itself, Contains-append_left, Contains-append_right, Contains-append_cases}
+use Rattle.list_facts.proofs.Lists.{nothing_in, in_first, in_rest, in_cons, nothing}
 use Rattle.tensor_words.specs.Worlds.{WorldType}
 use Rattle.graph_history.specs.declared.event.Act.TheVariants.{Spent}
 use Rattle.graph_history.specs.declared.event.Event.{Event}
-use Rattle.graph_history.specs.declared.view.Kept.{Kept}
-use Rattle.graph_history.specs.declared.view.View.{View}
+use Rattle.graph_history.specs.Views.{Kept}
+use Rattle.graph_history.specs.Views.{View}
 use Rattle.graph_history.specs.History.{state_of, HasSome, IsWhole, calls}
 use Rattle.graph_rule.specs.Rule.{IsUnused, IsKnown}
 use Rattle.graph_rule.specs.Values.{GraphValue, SeatValue, Belongs}
-use Rattle.crystal_growers.specs.declared.growing.Grown.{Grown}
-use Rattle.crystal_growers.specs.declared.growing.Grown.TheVariants.{Closed, Full}
-use Rattle.crystal_growers.specs.declared.work.Start.{Start}
-use Rattle.crystal_growers.specs.Growth.{GrowsFrom, Grew, HasEnded, rest_of}
-use Rattle.crystal_growers.specs.Work.{CanDraw}
-use Rattle.crystal_growers.specs.Gather.{numbers, HasGrown, IsSpentBy, IsPaidUp}
-use Rattle.crystal_growers.specs.Grow.{GrowthEnded, IsGrown, IsCovered, HasBegun, IsNumberIn, HasClosed}
-use Rattle.crystal_growers.proofs.Parts.{none_in, first_in, later_in, head_or, has_or_not, rest_in, rest_has}
+use Rattle.crystal_growers.specs.declared.growth.Grown.{Grown}
+use Rattle.crystal_growers.specs.declared.growth.Grown.TheVariants.{Closed, Full}
+use Rattle.crystal_growers.specs.declared.grower.Start.{Start}
+use Rattle.crystal_growers.specs.GrowthEvents.{GrowsFrom, Grew}
+use Rattle.crystal_growers.specs.Expansion.{HasEnded, rest_of}
+use Rattle.crystal_growers.specs.Drawing.{CanDraw}
+use Rattle.crystal_growers.specs.Gathering.{numbers, HasTakenIn, IsSpentBy, IsPaidUp}
+use Rattle.crystal_growers.specs.Growth.{GrowthEnded, IsGrown, IsCovered, HasBegun, IsNumberIn, HasClosed}
+use Rattle.crystal_growers.proofs.Parts.{has_or_not, rest_in, rest_has}
 use Rattle.crystal_growers.proofs.Histories.{came_grew, same_calls}
 use Rattle.crystal_growers.proofs.DrawnCells.{whole_later}
 use Rattle.crystal_growers.proofs.Coming.{grown_gave, grown_wider, grown_then}
@@ -26,12 +28,12 @@ use Rattle.crystal_growers.proofs.Numbers.{are_kept}
 
 -- an event of a number is among its calls
 in_calls : (h : List Event) (n : ℕ) (e : Event) → e.caller ≡ n → Contains h e → Contains (calls h n) e
-in_calls [] n e own h = absurd (none_in e h)
-in_calls (x ∷ h) n e own there = by (x.caller == n) refl (head_or x h e there) (in_calls h n e own)
+in_calls [] n e own h = absurd (nothing_in e h)
+in_calls (x ∷ h) n e own there = by (x.caller == n) refl (in_cons x h e there) (in_calls h n e own)
   where
     by : (b : Bool) → (x.caller == n) ≡ b → (x ≡ e) ⊎ Contains h e → (Contains h e → Contains (calls h n) e) → Contains (cond b (x ∷ calls h n) (calls h n)) e
-    by true is (inl same) later = subst (λ (y : Event). Contains (x ∷ calls h n) y) same (first_in x (calls h n))
-    by true is (inr rest) later = later_in x (calls h n) e (later rest)
+    by true is (inl same) later = subst (λ (y : Event). Contains (x ∷ calls h n) y) same (in_first x (calls h n))
+    by true is (inr rest) later = in_rest x (calls h n) e (later rest)
     by false is (inl same) later = let mine : (x.caller == n) ≡ true = eq-eqb x.caller n (ap (λ (y : Event). y.caller) same ∙ own) in cc
     by false is (inr rest) later = later rest
 
@@ -44,7 +46,7 @@ module _ {J : Type 0} (g : GraphValue) (v m w : SeatValue) (cells rest : List �
   few_used : b.parcels + growers * numbers + 1 ≤ 2 ^ 21 * growers
   few_used = let f = b.few in omega arith
 
-  gave : HasGrown g (IsUnused v.view) v m (b.parcels + growers * numbers) []
+  gave : HasTakenIn g (IsUnused v.view) v m (b.parcels + growers * numbers) []
   gave = grown_gave g (IsUnused v.view) v m (b.parcels + growers * numbers) can.belongs b.table
       (b.view ∙ (λ i. record v.view { next = v.view.next + (b.parcels + growers * numbers); left = v.view.left - (b.parcels + growers * numbers); stake = m.view.stake; dues = sym (ap (λ (x : View). x.dues) b.view) i }))
       mid_known (ap (λ (x : View). x.dues.pledge) b.view ∙ can.pledge)
@@ -53,7 +55,7 @@ module _ {J : Type 0} (g : GraphValue) (v m w : SeatValue) (cells rest : List �
   unused n (inl mine) = b.fresh n mine
   unused n (inr next) = let e : m.view.next ≡ v.view.next + (b.parcels + growers * numbers) = ap (λ (x : View). x.next) b.view in let f = few_used in (omega arith, omega arith)
 
-  grown : HasGrown g (IsUnused v.view) v w (b.parcels + growers * numbers + 1) c.news
+  grown : HasTakenIn g (IsUnused v.view) v w (b.parcels + growers * numbers + 1) c.news
   grown = grown_then g (IsUnused v.view) v m w (b.parcels + growers * numbers) 1 (b.parcels + growers * numbers + 1) [] c.news refl gave (grown_wider g (IsNumberIn starts m.view) (IsUnused v.view) m w 1 c.news unused c.grown)
 
   world : w.view.world ≡ v.view.world
@@ -68,8 +70,8 @@ module _ {J : Type 0} (g : GraphValue) (v m w : SeatValue) (cells rest : List �
   in_loaded : (d : ℕ) → Contains b.loaded d → Contains cells d
   in_loaded d h = subst (λ (l : List ℕ). Contains l d) (sym b.cells_are) (Contains-append_left b.loaded rest d h)
 
-  in_rest : (d : ℕ) → Contains rest d → Contains cells d
-  in_rest d h = subst (λ (l : List ℕ). Contains l d) (sym b.cells_are) (Contains-append_right b.loaded rest d h)
+  in_left : (d : ℕ) → Contains rest d → Contains cells d
+  in_left d h = subst (λ (l : List ℕ). Contains l d) (sym b.cells_are) (Contains-append_right b.loaded rest d h)
 
   not_given : (d : ℕ) → (Contains b.loaded d → ⊥) → (Contains rest d → ⊥) → Contains cells d → ⊥
   not_given d p q h = elim (Contains-append_cases b.loaded rest d (subst (λ (l : List ℕ). Contains l d) b.cells_are h)) [ inl l ↦ p l | inr r ↦ q r ]
@@ -84,12 +86,12 @@ module _ {J : Type 0} (g : GraphValue) (v m w : SeatValue) (cells rest : List �
   kept = ap (λ (x : View). x.kept) grown.is
 
   own_same : calls v.view.front v.view.number ≡ calls w.view.front v.view.number
-  own_same = known.agrees.own.mine ∙ sym (ap (λ (x : View). x.calls) grown.is) ∙ sym grown.known.agrees.own.mine ∙ ap (λ (k : ℕ). calls w.view.front k) (ap (λ (x : View). x.number) grown.is)
+  own_same = known.sound.agrees.own.mine ∙ sym (ap (λ (x : View). x.calls) grown.is) ∙ sym grown.known.sound.agrees.own.mine ∙ ap (λ (k : ℕ). calls w.view.front k) (ap (λ (x : View). x.number) grown.is)
 
   kept_grew : (k : Kept) → Contains w.view.kept k → Grew v.view.world k.number v.view.front w.view.front
   kept_grew k here = elim (Contains-append_cases v.view.kept c.news k (subst (λ (l : List Kept). Contains l k) kept here)) [
-    | inl old ↦ same_calls v.view.world k.number v.view.front w.view.front grown.front.0 grown.front.1 (known.agrees.own.kept k old ∙ sym (grown.known.agrees.own.kept k here))
-    | inr new ↦ subst (λ (x : WorldType). Grew x k.number v.view.front w.view.front) (sym can.belongs.world) (came_grew g.world v.view.front w.view.front k (grown.came k new) (grown.known.agrees.own.kept k here))
+    | inl old ↦ same_calls v.view.world k.number v.view.front w.view.front grown.front.0 grown.front.1 (known.sound.agrees.own.kept k old ∙ sym (grown.known.sound.agrees.own.kept k here))
+    | inr new ↦ subst (λ (x : WorldType). Grew x k.number v.view.front w.view.front) (sym can.belongs.world) (came_grew g.world v.view.front w.view.front k (grown.came k new) (grown.known.sound.agrees.own.kept k here))
   ]
 
   fixed : (n : ℕ) → Grew v.view.world n v.view.front w.view.front → GrowsFrom v.view.world n (state_of v.view.front) grown.front.0
@@ -100,7 +102,7 @@ module _ {J : Type 0} (g : GraphValue) (v m w : SeatValue) (cells rest : List �
     k.number,
     inr (unused k.number mine, (k, subst (λ (l : List Kept). Contains l k) (sym kept) (Contains-append_right v.view.kept c.news k there), refl)),
     elim (Contains-append_cases v.view.front grown.front.0 (record { caller = k.number; act = Spent x }) (subst (λ (l : List Event). Contains l (record { caller = k.number; act = Spent x })) grown.front.1 found)) [
-      | inl before ↦ absurd (none_in (record { caller = k.number; act = Spent x }) (subst (λ (l : List Event). Contains l (record { caller = k.number; act = Spent x })) (known.agrees.none k.number (unused k.number mine))
+      | inl before ↦ absurd (nothing_in (record { caller = k.number; act = Spent x }) (subst (λ (l : List Event). Contains l (record { caller = k.number; act = Spent x })) (known.sound.agrees.none k.number (unused k.number mine))
           (in_calls v.view.front k.number (record { caller = k.number; act = Spent x }) refl before)))
       | inr later ↦ later
     ],
@@ -111,7 +113,7 @@ module _ {J : Type 0} (g : GraphValue) (v m w : SeatValue) (cells rest : List �
     λ d h. elim h [ inl given ↦ whole d (owes d (known.dues.among d (can.unpaid d given))) | inr here ↦ whole d here ],
     λ d h. let k = rest_in rest m.view.dues.unpaid d (subst (λ (l : List ℕ). Contains l d) unpaid h) in let l = rest_in b.loaded v.view.dues.unpaid d (subst (λ (l : List ℕ). Contains l d) unpaid_is k.0) in (l.0, not_given d l.1 k.1),
     λ d h none. subst (λ (l : List ℕ). Contains l d) (sym unpaid)
-        (rest_has rest m.view.dues.unpaid d (subst (λ (l : List ℕ). Contains l d) (sym unpaid_is) (rest_has b.loaded v.view.dues.unpaid d h (λ here. none (in_loaded d here)))) (λ here. none (in_rest d here))),
+        (rest_has rest m.view.dues.unpaid d (subst (λ (l : List ℕ). Contains l d) (sym unpaid_is) (rest_has b.loaded v.view.dues.unpaid d h (λ here. none (in_loaded d here)))) (λ here. none (in_left d here))),
   )
     where
       whole : (d : ℕ) → Contains w.view.dues.owed d → IsWhole v.view.world (state_of w.view.front) d
@@ -168,7 +170,7 @@ grown_nothing g v cells growers none can known covered = record {
   front = sym (append-nil v.view.front);
   news = [];
   kept = sym (append-nil v.view.kept);
-  fresh = λ m h. absurd (none_in m h);
+  fresh = λ m h. absurd (nothing_in m h);
   workers = λ some_cell. let e = ap length none in absurd (omega arith);
   owed = λ d h. h;
   growth = λ n grower. tt;
@@ -180,7 +182,7 @@ grown_nothing g v cells growers none can known covered = record {
 }
   where
     nothing : (d : ℕ) → Contains cells d → ⊥
-    nothing d h = none_in d (subst (λ (l : List ℕ). Contains l d) none h)
+    nothing d h = nothing_in d (subst (λ (l : List ℕ). Contains l d) none h)
 
 -- a growth may begin from a seat's unpaid cells, where it owes no others
 pub can_grow : (g : GraphValue) (s : SeatValue) (cells : List ℕ) → Belongs s g → IsKnown s.view → s.view.dues.pledge ≡ 0 → s.view.dues.unpaid ≡ cells → CanDraw g cells s
@@ -194,8 +196,4 @@ can_grow g s cells belongs known pledge is = record {
 
 -- and where it closes, nothing is unpaid
 pub nothing_unpaid : (v w : View) (cells : List ℕ) (growers : ℕ) → v.dues.unpaid ≡ cells → IsGrown v w cells growers Closed → w.dues.unpaid ≡ []
-nothing_unpaid v w cells growers is h = by w.dues.unpaid (λ c there. let k = h.ended.1 c there in k.1 (subst (λ (l : List ℕ). Contains l c) is k.0))
-  where
-    by : (l : List ℕ) → ((c : ℕ) → Contains l c → ⊥) → l ≡ []
-    by [] none = refl
-    by (c ∷ l) none = absurd (none c (first_in c l))
+nothing_unpaid v w cells growers is h = nothing w.dues.unpaid (λ c there. let k = h.ended.1 c there in k.1 (subst (λ (l : List ℕ). Contains l c) is k.0))

@@ -2,6 +2,7 @@
 use Rattle.std.proofs.Common.{◌≡◌, refl, sym, ap, subst, ◌∙◌, ℕ, ◌+◌, ◌*◌, ◌<◌, ◌≤◌, ◌⊎◌, inl, inr, true, false, List, [], ◌∷◌, ◌++◌, append-nil, append_assoc, Option, Some, None, Bool, Result, Ok, Err, arith}
 use Rattle.std.specs.Prelude.{All}
 use Rattle.std.proofs.lemmas.List.Elements.{All-nil, All-cons, All-append, All-push}
+use Rattle.graph_history.proofs.Growing.{added_cells-append}
 use Rattle.crystal_cartan.specs.declared.types.Arrow.{Arrow}
 use Rattle.tensor_words.specs.Spaces.{SpaceType, size}
 use Rattle.tensor_words.specs.Operators.{IsArrow, op}
@@ -27,10 +28,10 @@ use Rattle.graph_history.proofs.Histories.{stays_append, one_code}
 use Rattle.graph_history.proofs.OwnActs.{leads_to, draws_leads, saw_drawn}
 use Rattle.graph_history.proofs.SoundStates.{sound}
 use Rattle.graph_rule.specs.Told.{drawn_acts}
-use Rattle.crystal_growers.specs.declared.rows.Spent.{Spent as SpentAnswer}
-use Rattle.crystal_growers.specs.Expanding.{IsGrowthAct, Expanding, taken_back, EndsSpent, ArrowEnded, ArrowDrawn, Expanded}
-use Rattle.crystal_growers.proofs.SharedSteps.{added_cells-append, entry_listed, Quiet, drawn_quiet}
-use Rattle.crystal_growers.proofs.Drawings.{vertex_goes}
+use Rattle.crystal_growers.specs.declared.expansion.Spent.{Spent as SpentAnswer}
+use Rattle.crystal_growers.specs.Expansion.{IsGrowthAct, Expanding, taken_back, EndsSpent, ArrowEnded, ArrowDrawn, Expanded}
+use Rattle.shared_desk.proofs.SharedSteps.{entry_listed, Quiet, drawn_quiet}
+use Rattle.shared_desk.proofs.Drawings.{vertex_goes}
 
 -- what is unpaid after a drawing
 tail_unpaid : (x : ℕ) (o : Origin) (r : AddedAnswer) (entry : List Act) (last : Act) (cells : List ℕ) → IsEntry x o r entry → ((l : List ℕ) → unpaid_then l last ≡ l) → added_by last ≡ []
@@ -82,8 +83,8 @@ pub drawn_growth : (s : SpaceType) (c y d : ℕ) (a : Arrow) (t : Option ℕ) (b
 drawn_growth s c y d a t true = one_growth s c y (Drew d a t) tt
 drawn_growth s c y d a t false = one_growth s c y (Saw d a t) tt
 
--- where there was no room
-record FoundNoRoom (s : SpaceType) (y : ℕ) (a : Arrow) (acts : List Act) : Type 0 where
+-- where a word found no cell
+record FoundNoCell (s : SpaceType) (y : ℕ) (a : Arrow) (acts : List Act) : Type 0 where
   x : ℕ
   leads : op s a y ≡ Some x
   ends : EndsSpent acts x
@@ -95,13 +96,13 @@ entry_ends c x a r acts none (added d) = cc
 entry_ends c x a r acts none (owed_met d) = cc
 entry_ends c x a r acts none owed_spent = record { before = Owed ∷ []; owed = true; is = refl }
 
-draws_no_room : (s : SpaceType) (c y : ℕ) (a : Arrow) (answer : Draw) (acts : List Act) → answer ≡ DrawsFull → Draws s c a y answer acts → FoundNoRoom s y a acts
-draws_no_room s c y a answer acts none saw_zero = cc
-draws_no_room s c y a answer acts none (saw t) = cc
-draws_no_room s c y a answer acts none (drew_zero e) = cc
-draws_no_room s c y a answer acts none (entered_drew t x r entry e at is) = cc
-draws_no_room s c y a answer acts none (entered_saw t x r entry e at is) = cc
-draws_no_room s c y a answer acts none (full x entry e is) = record { x = x; leads = e; ends = entry_ends c x a Full entry refl is }
+draws_no_cell : (s : SpaceType) (c y : ℕ) (a : Arrow) (answer : Draw) (acts : List Act) → answer ≡ DrawsFull → Draws s c a y answer acts → FoundNoCell s y a acts
+draws_no_cell s c y a answer acts none saw_zero = cc
+draws_no_cell s c y a answer acts none (saw t) = cc
+draws_no_cell s c y a answer acts none (drew_zero e) = cc
+draws_no_cell s c y a answer acts none (entered_drew t x r entry e at is) = cc
+draws_no_cell s c y a answer acts none (entered_saw t x r entry e at is) = cc
+draws_no_cell s c y a answer acts none (full x entry e is) = record { x = x; leads = e; ends = entry_ends c x a Full entry refl is }
 
 ends_after : (before acts : List Act) (x : ℕ) → EndsSpent acts x → EndsSpent (before ++ acts) x
 ends_after before acts x e = record {
@@ -162,13 +163,13 @@ module _ {Bond : Type 0} where
           ended = (to.0, draws_leads old.world old.caller old.front new.front c y a answer d.acts draws_here d.does.goes.grows to.0 to.1);
         }
 
-    -- there was no room, seen from the space of the desk now
+    -- no cell was found, seen from the space of the desk now
     module _ (full : answer ≡ DrawsFull) (s : SpaceType) (space : s ≡ new.world.space) where
       space_first : s ≡ old.world.space
       space_first = space ∙ ap (λ (w : WorldType). w.space) d.does.goes.world
 
-      found : FoundNoRoom old.world.space y a d.acts
-      found = draws_no_room old.world.space c y a answer d.acts full draws_here
+      found : FoundNoCell old.world.space y a d.acts
+      found = draws_no_cell old.world.space c y a answer d.acts full draws_here
 
       pub code_in : IsLegal old.world old.front → y < size s
       code_in legal = subst (λ (r : SpaceType). y < size r) (sym space_first) ((sound old.world old.front legal).words c y there)

@@ -3,28 +3,29 @@ use Rattle.std.proofs.Common.{◌≡◌, refl, sym, ap, subst, ◌∙◌, ℕ, �
 use Rattle.std.specs.List.{AllByRecursion}
 use Rattle.std.proofs.lemmas.List.{append_cancel_left}
 use Rattle.std.proofs.lemmas.List.Elements.{recursion_from_All}
+use Rattle.list_facts.proofs.Lists.{nothing_in, in_first, in_rest, in_cons}
 use Rattle.tensor_words.specs.Worlds.{WorldType}
 use Rattle.graph_history.specs.declared.event.Origin.{Origin}
 use Rattle.graph_history.specs.declared.event.Act.{Act}
 use Rattle.graph_history.specs.declared.event.Act.TheVariants.{Added, Spent}
 use Rattle.graph_history.specs.declared.event.Event.{Event}
-use Rattle.graph_history.specs.declared.view.Kept.{Kept}
-use Rattle.graph_history.specs.History.{State, empty_state, after, state_from, state_of, HasVertex, HasSome, calls}
+use Rattle.graph_history.specs.Views.{Kept}
+use Rattle.graph_history.specs.History.{State, empty_state, after, state_from, state_of, HasVertex, HasSome, calls, caller_of}
 use Rattle.graph_history.specs.Desks.{by, Grows, added_cells}
 use Rattle.graph_history.proofs.Histories.{state_from-append, stays_after}
 use Rattle.graph_history.proofs.OwnActs.{added_new}
 use Rattle.graph_rule.specs.Rule.{IsPrefix}
-use Rattle.graph_rule.proofs.Views.{prefix_on, calls-append, calls_quiet}
-use Rattle.crystal_growers.specs.Expanding.{IsGrowthAct}
-use Rattle.crystal_growers.specs.Growth.{IsGrowing, GrowsFrom, Grew}
-use Rattle.crystal_growers.specs.Gather.{CameBack}
-use Rattle.crystal_growers.proofs.Parts.{none_in, first_in, later_in, head_or}
+use Rattle.shared_seats.proofs.Fronts.{calls_quiet, prefix_on}
+use Rattle.graph_history.proofs.Growing.{calls-append}
+use Rattle.crystal_growers.specs.Expansion.{IsGrowthAct}
+use Rattle.crystal_growers.specs.GrowthEvents.{IsGrowing, GrowsFrom, Grew}
+use Rattle.crystal_growers.specs.Gathering.{CameBack}
 
 -- the cells that acts put in
 pub in_added : (acts : List Act) (c : ℕ) → Contains (added_cells acts) c → (xs : List Act) × (x : ℕ) × (o : Origin) × (ys : List Act) × (acts ≡ xs ++ Added c x o ∷ ys)
-in_added [] c h = absurd (none_in c h)
+in_added [] c h = absurd (nothing_in c h)
 in_added (Added d x o ∷ acts) c h =
-    elim (head_or d (added_cells acts) c h) [
+    elim (in_cons d (added_cells acts) c h) [
       | inl e ↦ ([], x, o, acts, λ i. Added (e i) x o ∷ acts)
       | inr rest ↦ let r = in_added acts c rest in (Added d x o ∷ r.0, r.1, r.2, r.3, ap (λ (l : List Act). Added d x o ∷ l) r.4)
     ]
@@ -127,11 +128,11 @@ grew_before w n old first h p none g =
 
 pub came_grew : (w : WorldType) (first now : List Event) (m : Kept) → CameBack w first now m → calls now m.number ≡ m.calls → Grew w m.number first now
 came_grew w first now m r all =
-    let later : calls r.ends.0 m.number ≡ [] = calls_quiet r.back r.ends.0 now m.number m.calls r.ends.1 r.all all in
+    let later : calls r.ends.0 m.number ≡ [] = calls_quiet caller_of r.back r.ends.0 now m.number m.calls r.ends.1 r.all all in
     grew_then w m.number first r.back now r.grew (grew_quiet w m.number r.back now r.ends.0 r.ends.1 later)
 
 pub same_calls : (w : WorldType) (n : ℕ) (old new more : List Event) → new ≡ old ++ more → calls old n ≡ calls new n → Grew w n old new
-same_calls w n old new more is same = grew_quiet w n old new more is (calls_quiet old more new n (calls new n) is same refl)
+same_calls w n old new more is same = grew_quiet w n old new more is (calls_quiet caller_of old more new n (calls new n) is same refl)
 
 pub came_on : (w : WorldType) (first now later : List Event) (m : Kept) → IsPrefix now later → CameBack w first now m → CameBack w first later m
 came_on w first now later m on r = record {
@@ -167,5 +168,5 @@ filter_in test [] x h = h
 filter_in {X} test (y ∷ xs) x h = by (test y) h (filter_in test xs x)
   where
     by : (b : Bool) → Contains (cond b (y ∷ filter test xs) (filter test xs)) x → (Contains (filter test xs) x → Contains xs x) → Contains (y ∷ xs) x
-    by true here later = elim (head_or y (filter test xs) x here) [ inl e ↦ subst (λ (z : X). Contains (y ∷ xs) z) e (first_in y xs) | inr rest ↦ later_in y xs x (later rest) ]
-    by false here later = later_in y xs x (later here)
+    by true here later = elim (in_cons y (filter test xs) x here) [ inl e ↦ subst (λ (z : X). Contains (y ∷ xs) z) e (in_first y xs) | inr rest ↦ in_rest y xs x (later rest) ]
+    by false here later = in_rest y xs x (later here)

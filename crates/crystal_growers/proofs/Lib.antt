@@ -1,8 +1,5 @@
-pub mod SharedSteps
-pub mod Drawings
 pub mod ExpandSteps
 pub mod BothEnds
-pub mod VertexCodes
 pub mod Parts
 pub mod Histories
 pub mod DrawnCells

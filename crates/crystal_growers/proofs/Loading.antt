@@ -7,9 +7,10 @@ use Rattle.std.proofs.lemmas.Bool.{cases_eq, cases_lt}
 use Rattle.std.proofs.lemmas.Grind.{get_or-set_at}
 use Rattle.std.proofs.lemmas.List.{take-append-drop, take-take, drop-take, drop-drop, length-set, drop_more, drop_all, length-drop, length_push, get_or_append_left, get_or_push, get_or-set_other}
 use Rattle.std.proofs.lemmas.List.Elements.{All-weaker, All-contains_itself, Contains-append_left, Contains-append_right, Contains-append_cases, Contains-push_cases}
+use Rattle.list_facts.proofs.Lists.{nothing_in, in_rest}
 use Rattle.graph_history.specs.declared.event.Event.{Event}
 use Rattle.graph_history.specs.declared.view.Dues.{Dues}
-use Rattle.graph_history.specs.declared.view.View.{View}
+use Rattle.graph_history.specs.Views.{View}
 use Rattle.graph_history.specs.History.{state_of, HasSome}
 use Rattle.graph_history.proofs.CellLists.{keep_all}
 use Rattle.graph_rule.specs.Rule.{IsUnused, IsKnown}
@@ -21,14 +22,14 @@ use Rattle.parcel_deques.specs.Ends.{DequeId}
 use Rattle.parcel_deques.specs.Benches.{BenchValue}
 use Rattle.parcel_deques.specs.Making.{IsApart, AreNew}
 use Rattle.parcel_deques.proofs.Weights.{weigh-append}
-use Rattle.crystal_growers.specs.declared.work.Start.{Start}
+use Rattle.crystal_growers.specs.declared.grower.Start.{Start}
 use Rattle.crystal_growers.specs.Slips.{slip_stakes, HasCell, all_pushed}
-use Rattle.crystal_growers.specs.Work.{CanDraw}
-use Rattle.crystal_growers.specs.Shifts.{HasPushed}
-use Rattle.crystal_growers.specs.Gather.{numbers, AreIdle, HasLoaded, IsStart, AreStarts, worth, starting_slips, HasStarted}
-use Rattle.crystal_growers.specs.Grow.{IsLost, HasBegun}
+use Rattle.crystal_growers.specs.Drawing.{CanDraw}
+use Rattle.crystal_growers.specs.Grower.{HasPushed}
+use Rattle.crystal_growers.specs.Gathering.{numbers, AreIdle, HasLoaded, IsStart, AreStarts, worth, starting_slips, HasStarted}
+use Rattle.crystal_growers.specs.Growth.{IsLost, HasBegun}
 use Rattle.crystal_growers.proofs.Coming.{lost_gave}
-use Rattle.crystal_growers.proofs.Parts.{none_in, rest_both, rest_has, distinct_split}
+use Rattle.crystal_growers.proofs.Parts.{rest_both, rest_has, distinct_split}
 use Rattle.crystal_growers.proofs.SlipCells.{no_cell, in_one, cell_front, cell_back, cell_or, same_cells}
 
 -- one bench pushed a slip
@@ -91,7 +92,7 @@ loading_none s cells count capacity benches many enough new = record {
   counted = omega arith;
   stake = ap (λ (l : List Slip). s.view.stake + slip_stakes l) none ∙ (let e : s.view.stake + 0 ≡ s.view.stake = omega arith in e);
   enough = enough;
-  has = λ c h. absurd (none_in c (subst (λ (n : ℕ). Contains (take n cells) c) (sym zero_times) h));
+  has = λ c h. absurd (nothing_in c (subst (λ (n : ℕ). Contains (take n cells) c) (sym zero_times) h));
   many = many;
   call = new.call;
   long = new.long;
@@ -298,7 +299,7 @@ starting_none {J} g s benches share idle enough = record {
   apart = λ i d below. (idle.apart.each i d below, idle.taken i d below);
   count = refl;
   each = λ i d below. absurd (omega arith);
-  fresh = λ t h. absurd (none_in t h);
+  fresh = λ t h. absurd (nothing_in t h);
   numbered = λ i d below. absurd (omega arith);
 }
   where
@@ -470,7 +471,7 @@ has_begun {J} g first mid now cells rest growers benches starts known enough som
 }
   where
     few : l.parcels ≤ 2 ^ 16
-    few = let c = l.counted in let k = known.staked in omega arith
+    few = let c = l.counted in let k = known.sound.staked in omega arith
 
     same : length benches * numbers ≡ growers * numbers
     same = ap (λ (n : ℕ). n * numbers) l.many

@@ -2,13 +2,13 @@
 use Rattle.std.proofs.Common.{◌≡◌, sym, subst, ◌∙◌, ℕ, zero, suc, ◌+◌, ◌*◌, ◌<◌, inl, inr, nat_eq, false, refl, List, [], ◌∷◌, length, get_or, Contains, arith}
 use Rattle.std.specs.List.{IsDistinct, AllByRecursion}
 use Rattle.std.proofs.lemmas.Grind.{common_steps}
-use Rattle.graph_history.specs.declared.view.Kept.{Kept}
-use Rattle.graph_history.specs.declared.view.View.{View}
+use Rattle.list_facts.proofs.Lists.{nothing_in, in_first, in_rest, in_cons}
+use Rattle.graph_history.specs.Views.{Kept}
+use Rattle.graph_history.specs.Views.{View}
 use Rattle.graph_rule.specs.Rule.{IsUnused}
-use Rattle.crystal_growers.specs.declared.work.Start.{Start}
-use Rattle.crystal_growers.specs.Gather.{numbers, HasNumber, IsNumberOf}
-use Rattle.crystal_growers.specs.Grow.{AreKept}
-use Rattle.crystal_growers.proofs.Parts.{none_in, first_in, later_in, head_or}
+use Rattle.crystal_growers.specs.declared.grower.Start.{Start}
+use Rattle.crystal_growers.specs.Gathering.{numbers, HasNumber, IsNumberOf}
+use Rattle.crystal_growers.specs.Growth.{AreKept}
 
 -- so many numbers from this one on
 abbrev spaced : ℕ → ℕ → List ℕ
@@ -20,8 +20,8 @@ spaced_many n zero = refl
 spaced_many n (suc k) = let e = spaced_many (n + numbers) k in omega arith
 
 in_spaced : (n k m : ℕ) → Contains (spaced n k) m → (i : ℕ) × (i < k) × (m ≡ n + i * numbers)
-in_spaced n zero m h = absurd (none_in m h)
-in_spaced n (suc k) m h = elim (head_or n (spaced (n + numbers) k) m h) [
+in_spaced n zero m h = absurd (nothing_in m h)
+in_spaced n (suc k) m h = elim (in_cons n (spaced (n + numbers) k) m h) [
   | inl e ↦ (0, omega arith, omega arith)
   | inr rest ↦ let r = in_spaced (n + numbers) k m rest in let below = r.1 in let is = r.2 in (suc r.0, omega arith, omega arith)
 ]
@@ -40,10 +40,10 @@ spaced_once n (suc k) = (spaced_above n (n + numbers) k (omega arith), spaced_on
 
 number_at : {J : Type 0} (starts : List (Start J)) (first k : ℕ) → k < length starts → ((i : ℕ) (d : Start J) → i < length starts → (get_or starts i d).seat.view.number ≡ first + i * numbers) → IsNumberOf starts (first + k * numbers)
 number_at [] first k below each = absurd (omega arith)
-number_at (s ∷ starts) first zero below each = (s, first_in s starts, each 0 s (omega arith))
+number_at (s ∷ starts) first zero below each = (s, in_first s starts, each 0 s (omega arith))
 number_at {J} (s ∷ starts) first (suc k) below each =
     let rest : IsNumberOf starts (first + numbers + k * numbers) = number_at starts (first + numbers) k (omega arith) (λ i d under. each (suc i) d (omega arith) ∙ (let e : first + suc i * numbers ≡ first + numbers + i * numbers = omega arith in e)) in
-    (rest.0, later_in s starts rest.0 rest.1, let is = rest.2 in omega arith)
+    (rest.0, in_rest s starts rest.0 rest.1, let is = rest.2 in omega arith)
 
 -- the numbers of growers that began at such numbers and came back
 pub are_kept : {J : Type 0} (v : View) (starts : List (Start J)) (first growers : ℕ) (news : List Kept) → length starts ≡ growers → ((i : ℕ) (d : Start J) → i < length starts → (get_or starts i d).seat.view.number ≡ first + i * numbers)

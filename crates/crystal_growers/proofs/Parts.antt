@@ -3,24 +3,12 @@ use Rattle.std.proofs.Common.{◌≡◌, refl, sym, ap, ap₂, subst, ◌∙◌,
 use Rattle.std.specs.List.{IsDistinct, AllByRecursion}
 use Rattle.std.specs.Set.{is_member}
 use Rattle.std.proofs.lemmas.Grind.{common_steps}
-use Rattle.std.proofs.lemmas.List.Elements.{filter-append, filter_agree, All-from_recursion, All-contains, Contains-append_right, Contains-append_cases, Contains-push_cases}
+use Rattle.std.proofs.lemmas.List.Elements.{filter-append, filter_agree, All-from_recursion, All-contains}
 use Rattle.std.proofs.lemmas.List.Folds.{list_any-append}
+use Rattle.list_facts.proofs.Lists.{nothing_in, in_first, in_rest, in_cons, filter_keeps}
 use Rattle.graph_history.specs.Desks.{without}
-use Rattle.graph_history.proofs.CellLists.{into, out_of, not_in, part_of, part_has}
-use Rattle.crystal_growers.specs.Growth.{rest_of}
-
--- elements
-pub none_in : {X : Type 0} (c : X) → Contains [] c → ⊥
-none_in c (k, below, is) = omega arith
-
-pub first_in : {X : Type 0} (x : X) (xs : List X) → Contains (x ∷ xs) x
-first_in x xs = (0, omega arith, refl)
-
-pub later_in : {X : Type 0} (x : X) (xs : List X) (c : X) → Contains xs c → Contains (x ∷ xs) c
-later_in x xs c h = Contains-append_right (x ∷ []) xs c h
-
-pub head_or : {X : Type 0} (x : X) (xs : List X) (c : X) → Contains (x ∷ xs) c → (x ≡ c) ⊎ Contains xs c
-head_or x xs c h = elim (Contains-append_cases (x ∷ []) xs c h) [ inl l ↦ elim (Contains-push_cases [] x c l) [ inl n ↦ absurd (none_in c n) | inr e ↦ inl e ] | inr r ↦ inr r ]
+use Rattle.graph_history.proofs.CellLists.{into, out_of, not_in, part_of}
+use Rattle.crystal_growers.specs.Expansion.{rest_of}
 
 -- what is left of a list
 not_true : (b : Bool) → not b ≡ true → b ≡ false
@@ -45,13 +33,13 @@ rest_in cells list c h =
     (both.0, λ there. true≢false (sym (into cells c there) ∙ not_true (is_member nat_eq cells c) both.1))
 
 pub rest_has : (cells list : List ℕ) (c : ℕ) → Contains list c → (Contains cells c → ⊥) → Contains (rest_of cells list) c
-rest_has cells list c h none = part_has (λ d. not (is_member nat_eq cells d)) list c h (not_false (is_member nat_eq cells c) (not_in cells c none))
+rest_has cells list c h none = filter_keeps (λ d. not (is_member nat_eq cells d)) list c h (not_false (is_member nat_eq cells c) (not_in cells c none))
 
 pub rest_same : (cells list : List ℕ) → ((c : ℕ) → Contains list c → Contains cells c → ⊥) → rest_of cells list ≡ list
 rest_same cells [] apart = refl
 rest_same cells (x ∷ xs) apart =
-    let here : is_member nat_eq cells x ≡ false = not_in cells x (apart x (first_in x xs)) in
-    let later : rest_of cells xs ≡ xs = rest_same cells xs (λ c h. apart c (later_in x xs c h)) in
+    let here : is_member nat_eq cells x ≡ false = not_in cells x (apart x (in_first x xs)) in
+    let later : rest_of cells xs ≡ xs = rest_same cells xs (λ c h. apart c (in_rest x xs c h)) in
     rw here (ap (λ (l : List ℕ). x ∷ l) later)
 
 pub rest_none : (cells list : List ℕ) → rest_of cells (filter (is_member nat_eq cells) list) ≡ []
@@ -65,8 +53,8 @@ rest_none cells (x ∷ xs) = by (is_member nat_eq cells x) refl (rest_none cells
 pub rest_all : (cells list : List ℕ) → ((c : ℕ) → Contains list c → Contains cells c) → rest_of cells list ≡ []
 rest_all cells [] all = refl
 rest_all cells (x ∷ xs) all =
-    let here : is_member nat_eq cells x ≡ true = into cells x (all x (first_in x xs)) in
-    let later : rest_of cells xs ≡ [] = rest_all cells xs (λ c h. all c (later_in x xs c h)) in
+    let here : is_member nat_eq cells x ≡ true = into cells x (all x (in_first x xs)) in
+    let later : rest_of cells xs ≡ [] = rest_all cells xs (λ c h. all c (in_rest x xs c h)) in
     rw here later
 
 pub rest_append : (cells xs ys : List ℕ) → rest_of cells (xs ++ ys) ≡ rest_of cells xs ++ rest_of cells ys
@@ -106,11 +94,11 @@ same_test c h = grind (arith, common_steps)
 
 pub distinct_split : (xs ys : List ℕ) → IsDistinct nat_eq (xs ++ ys) → IsDistinct nat_eq xs × IsDistinct nat_eq ys × ((c : ℕ) → Contains xs c → Contains ys c → ⊥)
 unfolding IsDistinct
-distinct_split [] ys d = (tt, d, λ c h g. none_in c h)
+distinct_split [] ys d = (tt, d, λ c h g. nothing_in c h)
 distinct_split (x ∷ xs) ys d =
     let rest = distinct_split xs ys d.1 in
     let apart : (c : ℕ) → Contains ys c → nat_eq x c ≡ false = λ c g. All-contains (λ y. nat_eq x y ≡ false) ys c (All-from_recursion (λ y. nat_eq x y ≡ false) ys (all_rest (λ y. nat_eq x y ≡ false) xs ys d.0)) g in (
       (all_front (λ y. nat_eq x y ≡ false) xs ys d.0, rest.0),
       rest.1,
-      λ c h g. elim (head_or x xs c h) [ inl e ↦ same_test c (subst (λ (y : ℕ). nat_eq y c ≡ false) e (apart c g)) | inr r ↦ rest.2 c r g ],
+      λ c h g. elim (in_cons x xs c h) [ inl e ↦ same_test c (subst (λ (y : ℕ). nat_eq y c ≡ false) e (apart c g)) | inr r ↦ rest.2 c r g ],
     )

@@ -7,13 +7,12 @@ use Rattle.graph_rule.proofs.Composing.{went_grows}
 use Rattle.parcel_deques.specs.declared.parcel.Slip.{Slip}
 use Rattle.parcel_deques.specs.Lists.{weigh, SameItems}
 use Rattle.parcel_deques.specs.Benches.{BenchValue, FoundOwnEmpty}
-use Rattle.crystal_growers.specs.declared.work.Ending.{Ending}
-use Rattle.crystal_growers.specs.declared.work.Ending.TheVariants.{Done, Spent, NoMemory}
-use Rattle.crystal_growers.specs.declared.work.Ready.{Ready}
-use Rattle.crystal_growers.specs.declared.work.Stopped.{Stopped}
-use Rattle.crystal_growers.specs.Work.{HasDrawn, IsWaiting}
-use Rattle.crystal_growers.specs.Shifts.{HasWorked, HasPushed, HasOffered, HasRun, IsWorking, HasSwept, GoesOn}
-use Rattle.crystal_growers.specs.Workers.{HasStopped, HasFailed, IsParcelRun, IsOffered, IsDrawnBack, IsEndingOf}
+use Rattle.crystal_growers.specs.declared.grower.Ending.{Ending}
+use Rattle.crystal_growers.specs.declared.grower.Ending.TheVariants.{Done, Spent, NoMemory}
+use Rattle.crystal_growers.specs.declared.grower.Ready.{Ready}
+use Rattle.crystal_growers.specs.declared.grower.Stopped.{Stopped}
+use Rattle.crystal_growers.specs.Drawing.{HasDrawn, IsWaiting}
+use Rattle.crystal_growers.specs.Grower.{HasWorked, HasPushed, HasOffered, HasRun, IsWorking, HasSwept, GoesOn, HasStopped, HasFailed, IsParcelRun, IsOffered, IsDrawnBack, IsEndingOf}
 use Rattle.crystal_growers.proofs.Histories.{never_added}
 use Rattle.crystal_growers.proofs.Acting.{acted_then, acted_back, acted_drawn, acted_handed, owes_handed, works_none, works_then, works_drawn, offers_works}
 use Rattle.crystal_growers.proofs.Serving.{served_none, served_then, served_taken, served_pushed}

@@ -10,8 +10,8 @@ use Rattle.parcel_deques.specs.Parcels.{IsOwned, owned_by}
 use Rattle.parcel_deques.specs.Benches.{BenchValue, HasAll, FoundOwnEmpty}
 use Rattle.parcel_deques.proofs.Weights.{weigh-append, weigh_ones}
 use Rattle.parcel_deques.proofs.Slips.{owned_same}
-use Rattle.crystal_growers.specs.Work.{IsWaiting, IsEnded}
-use Rattle.crystal_growers.specs.Shifts.{HasActed, HasWorked, IsBenchServed, IsWorking, IsSweeping, GoesOn, HasSwept}
+use Rattle.crystal_growers.specs.Drawing.{IsWaiting, IsEnded}
+use Rattle.crystal_growers.specs.Grower.{HasActed, HasWorked, IsBenchServed, IsWorking, IsSweeping, GoesOn, HasSwept}
 use Rattle.crystal_growers.proofs.Acting.{works_none, works_then, spent_later}
 
 -- the slips of one owner

@@ -3,8 +3,9 @@ use Rattle.std.proofs.Common.{◌≡◌, refl, sym, ap, ap₂, subst, ◌∙◌,
 use Rattle.std.specs.List.{IsDistinct}
 use Rattle.std.proofs.lemmas.List.{take-append-drop}
 use Rattle.std.proofs.lemmas.List.Elements.{All-weaker, All-contains, All-contains_itself, Contains-append_left, Contains-append_right, Contains-append_cases}
+use Rattle.list_facts.proofs.Lists.{nothing_in, in_first, nothing}
 use Rattle.tensor_words.specs.Worlds.{WorldType}
-use Rattle.graph_history.specs.declared.view.View.{View}
+use Rattle.graph_history.specs.Views.{View}
 use Rattle.graph_history.specs.Desks.{added_cells}
 use Rattle.graph_history.specs.Notes.{no_dues}
 use Rattle.graph_history.specs.History.{state_of, HasSome, IsWhole}
@@ -17,13 +18,13 @@ use Rattle.graph_rule.specs.Values.{GraphValue, SeatValue, Belongs}
 use Rattle.graph_rule.proofs.Composing.{went_grows}
 use Rattle.parcel_deques.specs.declared.parcel.Slip.{Slip}
 use Rattle.parcel_deques.specs.Parcels.{IsHanded}
-use Rattle.crystal_growers.specs.Work.{CanDraw, HasDrawn, IsWaiting, IsEnded}
-use Rattle.crystal_growers.proofs.Parts.{none_in, first_in, rest_in, rest_has, rest_all, distinct_split}
+use Rattle.crystal_growers.specs.Drawing.{CanDraw, HasDrawn, IsWaiting, IsEnded}
+use Rattle.crystal_growers.proofs.Parts.{rest_in, rest_has, rest_all, distinct_split}
 use Rattle.crystal_growers.proofs.Histories.{never_added}
 use Rattle.crystal_growers.proofs.DrawnCells.{whole_later}
 use Rattle.crystal_growers.proofs.Acting.{drawn_spent}
 use Rattle.crystal_growers.proofs.Vertices.{at_least, more_than}
-use Rattle.crystal_growers.proofs.SharedSteps.{worked_belongs, worked_world}
+use Rattle.shared_desk.proofs.SharedSteps.{worked_belongs, worked_world}
 
 -- unpaid cells can be drawn
 pub can_draw : (g : GraphValue) (s : SeatValue) (cells : List ℕ) → Belongs s g → IsKnown s.view → s.view.dues.pledge ≡ 0 → IsDistinct nat_eq cells → ((c : ℕ) → Contains cells c → Contains s.view.dues.unpaid c) → CanDraw g cells s
@@ -39,9 +40,9 @@ can_draw g s cells belongs known pledge once unpaid = record {
 pub waits_none : (g : GraphValue) (s : SeatValue) → Belongs s g → IsKnown s.view → s.view.dues ≡ no_dues → IsWaiting g [] s
 unfolding IsDistinct
 waits_none g s belongs known none = record {
-  can = can_draw g s [] belongs known (ap (λ d. d.pledge) none) tt (λ c h. absurd (none_in c h));
+  can = can_draw g s [] belongs known (ap (λ d. d.pledge) none) tt (λ c h. absurd (nothing_in c h));
   no_other = λ c h. subst (λ (l : List ℕ). Contains l c) (ap (λ d. d.unpaid) none) h;
-  covered = λ c h. absurd (none_in c (subst (λ (l : List ℕ). Contains l c) (ap (λ d. d.owed) none) h));
+  covered = λ c h. absurd (nothing_in c (subst (λ (l : List ℕ). Contains l c) (ap (λ d. d.owed) none) h));
 }
 
 -- the cells of a parcel wait besides, after its seat joined
@@ -172,4 +173,4 @@ falls g old now cells added full belongs d some =
         by : (l : List ℕ) → ((c : ℕ) → Contains l c → length (state_of old.view.front).vertices < length (state_of now.view.front).vertices)
             → waiting l + length (state_of old.view.front).vertices ≤ length (state_of now.view.front).vertices
         by [] more = let k = at_least old.view.front now.view.front on in omega arith
-        by (c ∷ l) more = let k = more c (first_in c l) in omega arith
+        by (c ∷ l) more = let k = more c (in_first c l) in omega arith

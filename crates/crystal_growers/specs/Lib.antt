@@ -1,9 +1,7 @@
-pub mod SharedDesks
-pub mod Expanding
-pub mod Growth
-pub mod Work
+pub mod GrowthEvents
+pub mod Expansion
+pub mod Drawing
 pub mod Slips
-pub mod Shifts
-pub mod Workers
-pub mod Gather
-pub mod Grow
+pub mod Grower
+pub mod Gathering
+pub mod Growth

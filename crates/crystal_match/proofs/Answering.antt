@@ -11,7 +11,6 @@ use Rattle.std.proofs.lemmas.Map.Views.{list_any-from_Contains, Contains-from_an
 use Rattle.crystal_cartan.specs.declared.types.Arrow.{Arrow}
 use Rattle.tensor_words.specs.Operators.{op}
 use Rattle.tensor_words.specs.Reach.{IsPath, walk}
-use Rattle.signature_rule.proofs.Paths.{path-push}
 use Rattle.crystal_match.specs.declared.search.PairOrigin.{PairOrigin}
 use Rattle.crystal_match.specs.declared.search.Search.{Search}
 use Rattle.crystal_match.specs.Relabelling.{relabelled}
@@ -19,12 +18,13 @@ use Rattle.crystal_match.specs.Listings.{pair_at, pair_eq}
 use Rattle.crystal_match.specs.Telling.{PointedType, IsPointed, Tells, first_end, second_end, IsFirstTelling}
 use Rattle.signature_rule.specs.ArrowOrder.{arrow_place}
 use Rattle.crystal_match.specs.Matching.{IsCountedPair, PairsOutnumber}
-use Rattle.crystal_match.specs.Search.{walk_at, number, step_number, IsSettled, IsSearch, IsTold}
+use Rattle.crystal_match.specs.Search.{walk_at, number, step_number, IsFollowed, IsSearch, IsTelling}
 use Rattle.crystal_match.proofs.PairLists.{pair_equiv, pair_exact, same_pair, pair_place}
 use Rattle.crystal_match.proofs.Numbers.{place_below, numbered-push, no_longer, not_behind}
 use Rattle.crystal_match.proofs.Relabels.{rank_some}
-use Rattle.crystal_match.proofs.Back.{walk-push, map-push}
-use Rattle.crystal_match.proofs.Settling.{IsOpen, settles_first, tells_open, open_late}
+use Rattle.crystal_match.proofs.Back.{map-push}
+use Rattle.crystal_match.proofs.Following.{IsOpen, follows_first, tells_open, open_late}
+use Rattle.tensor_words.proofs.Walks.{path-push, walk-push}
 
 -- more pairs than the limit were found, and each of them counts
 pub many_pairs : (m : PointedType) (limit : ℕ) (found : List (ℕ × ℕ)) → IsDistinct pair_eq found → limit < length found
@@ -87,12 +87,12 @@ module _ (m : PointedType) (is : IsPointed m) (n at end : ℕ) (found : List (�
 
   -- the walk of a list that counts leads to a pair that was found, or it is as late as an arrow that is not followed
   counted_place : (p : ℕ × ℕ) (c : IsCountedPair m p) → ((j : ℕ) × (j < length found) × (pair_at found j ≡ p) × (number m (walk_at s.walks j) ≤ number m c.path)) ⊎ IsOpen m n at end found origins s (number m c.path)
-  counted_place p c = elim (settles_first m n at end found origins s some c.path c.counts.arrows first_there) [
-    | inl settled ↦ inl (by (first_end m c.path) (second_end m c.path) c.first c.second settled)
+  counted_place p c = elim (follows_first m n at end found origins s some c.path c.counts.arrows first_there) [
+    | inl known ↦ inl (by (first_end m c.path) (second_end m c.path) c.first c.second known)
     | inr left ↦ inr left
   ]
     where
-      by : (first second : Option ℕ) → first ≡ Some p.0 → second ≡ Some p.1 → IsSettled m found s.walks (number m c.path) first second
+      by : (first second : Option ℕ) → first ≡ Some p.0 → second ≡ Some p.1 → IsFollowed m found s.walks (number m c.path) first second
           → (j : ℕ) × (j < length found) × (pair_at found j ≡ p) × (number m (walk_at s.walks j) ≤ number m c.path)
       by first second is_first is_second (inl none) = let clash : None ≡ Some p.0 = sym none.0 ∙ is_first in cc
       by first second is_first is_second (inr f) =
@@ -112,10 +112,10 @@ too_many m is limit at end found origins s here within over distinct = many_pair
     ]
 
     long : (first : List Arrow) → IsFirstTelling m first → s.level + 1 ≤ length first
-    long first told =
-        let left = tells_open m 0 at end found origins s (rank_some m is) first (omega (arith, s.count)) told.tells in
+    long first telling =
+        let left = tells_open m 0 at end found origins s (rank_some m is) first (omega (arith, s.count)) telling.tells in
         let behind : end ≤ left.place = elim left.later [ inl after ↦ omega (arith, after, here) | inr own ↦ omega (arith, own.0, here) ] in
-        let up = no_longer m.space (walk_at s.walks left.place ++ left.arrow ∷ []) first (rank_some m is) told.tells.arrows
+        let up = no_longer m.space (walk_at s.walks left.place ++ left.arrow ∷ []) first (rank_some m is) telling.tells.arrows
         (omega (arith, pushed_number m is 0 at end found origins s left.place left.arrow, left.early)) in
         omega (arith, up, pushed_length m is 0 at end found origins s left.place left.arrow, s.longer left.place behind left.within)
 
@@ -124,57 +124,57 @@ too_many m is limit at end found origins s here within over distinct = many_pair
         let leads = s.leads j low in
         record {
           path = walk_at s.walks j;
-          counts = record { arrows = leads.arrows; shorter = λ first told. omega (arith, short j low, long first told) };
+          counts = record { arrows = leads.arrows; shorter = λ first telling. omega (arith, short j low, long first telling) };
           first = leads.first;
           second = leads.second;
         }
 
-module _ (m : PointedType) (is : IsPointed m) (a : Arrow) (s : Search) (t : IsTold m a s) where
+module _ (m : PointedType) (is : IsPointed m) (a : Arrow) (s : Search) (t : IsTelling m a s) where
   -- the list that is kept for the pair at `at`, and then the arrow
-  abbrev told_walk : List Arrow
-  told_walk = walk_at t.search.walks s.at ++ a ∷ []
+  abbrev telling_walk : List Arrow
+  telling_walk = walk_at t.search.walks s.at ++ a ∷ []
 
   there : s.at < length s.found
   there = omega (arith, t.at, t.search.within)
 
-  told_late : (k : ℕ) → IsOpen m (arrow_place m.space.cartan.rank a) s.at s.end s.found s.origins.items t.search k → number m told_walk ≤ k
-  told_late k left =
+  telling_late : (k : ℕ) → IsOpen m (arrow_place m.space.cartan.rank a) s.at s.end s.found s.origins.items t.search k → number m telling_walk ≤ k
+  telling_late k left =
       let late = open_late m (arrow_place m.space.cartan.rank a) s.at s.end s.found s.origins.items t.search k (place_below m.space a t.arrow) left in
       omega (arith, late, pushed_number m is (arrow_place m.space.cartan.rank a) s.at s.end s.found s.origins.items t.search s.at a)
 
-  told_arrows : IsPath m.space told_walk
-  told_arrows = path-push m.space (walk_at t.search.walks s.at) a (t.search.leads s.at there).arrows t.arrow
+  telling_arrows : IsPath m.space telling_walk
+  telling_arrows = path-push m.space (walk_at t.search.walks s.at) a (t.search.leads s.at there).arrows t.arrow
 
-  told_tells : Tells m told_walk
-  told_tells =
+  telling_tells : Tells m telling_walk
+  telling_tells =
       let before = t.search.leads s.at there in
-      let first : first_end m told_walk ≡ op m.space a (pair_at s.found s.at).0 = walk-push m.space (walk_at t.search.walks s.at) a m.first (pair_at s.found s.at).0 before.first in
-      let second : second_end m told_walk ≡ op m.space (relabelled m.relabel a) (pair_at s.found s.at).1 =
+      let first : first_end m telling_walk ≡ op m.space a (pair_at s.found s.at).0 = walk-push m.space (walk_at t.search.walks s.at) a m.first (pair_at s.found s.at).0 before.first in
+      let second : second_end m telling_walk ≡ op m.space (relabelled m.relabel a) (pair_at s.found s.at).1 =
       ap (λ (p : List Arrow). walk m.space p m.second) (map-push m (walk_at t.search.walks s.at) a)
       ∙ walk-push m.space (map (relabelled m.relabel) (walk_at t.search.walks s.at)) (relabelled m.relabel a) m.second (pair_at s.found s.at).1 before.second in
-      record { arrows = told_arrows; apart = rw (first, second) t.apart }
+      record { arrows = telling_arrows; apart = rw (first, second) t.apart }
 
-  told_before : (other : List Arrow) → Tells m other → number m told_walk ≤ number m other
-  told_before other tells =
-      told_late (number m other) (tells_open m (arrow_place m.space.cartan.rank a) s.at s.end s.found s.origins.items t.search (rank_some m is) other (omega (arith, there)) tells)
+  telling_before : (other : List Arrow) → Tells m other → number m telling_walk ≤ number m other
+  telling_before other tells =
+      telling_late (number m other) (tells_open m (arrow_place m.space.cartan.rank a) s.at s.end s.found s.origins.items t.search (rank_some m is) other (omega (arith, there)) tells)
 
   -- it is the first list that tells the marks apart
-  pub told_first : IsFirstTelling m told_walk
-  told_first = record {
-    tells = told_tells;
-    shortest = λ other tells. no_longer m.space told_walk other (rank_some m is) tells.arrows (told_before other tells);
-    least = λ other tells same before. not_behind m.space told_walk other tells.arrows (told_before other tells) same before;
+  pub telling_first : IsFirstTelling m telling_walk
+  telling_first = record {
+    tells = telling_tells;
+    shortest = λ other tells. no_longer m.space telling_walk other (rank_some m is) tells.arrows (telling_before other tells);
+    least = λ other tells same before. not_behind m.space telling_walk other tells.arrows (telling_before other tells) same before;
   }
 
   -- and the pairs that count were found before its level
-  pub told_few : (limit : ℕ) → s.end ≤ limit → PairsOutnumber m limit → ⊥
-  told_few limit few = few_pairs m limit s.end s.found few t.search.within among
+  pub telling_few : (limit : ℕ) → s.end ≤ limit → PairsOutnumber m limit → ⊥
+  telling_few limit few = few_pairs m limit s.end s.found few t.search.within among
     where
       among : (p : ℕ × ℕ) → IsCountedPair m p → (j : ℕ) × (j < s.end) × (pair_at s.found j ≡ p)
       among p c = elim (counted_place m is (arrow_place m.space.cartan.rank a) s.at s.end s.found s.origins.items t.search p c) [
         | inl h ↦
             let up = no_longer m.space (walk_at t.search.walks h.0) c.path (rank_some m is) c.counts.arrows h.3 in
-            let short = c.counts.shorter told_walk told_first in
+            let short = c.counts.shorter telling_walk telling_first in
             let size = pushed_length m is (arrow_place m.space.cartan.rank a) s.at s.end s.found s.origins.items t.search s.at a in
             let own = t.search.same s.at (omega arith) t.at in
             elim (cases_lt h.0 s.end) [
@@ -182,8 +182,8 @@ module _ (m : PointedType) (is : IsPointed m) (a : Arrow) (s : Search) (t : IsTo
               | inr above ↦ absurd (omega (arith, t.search.longer h.0 above h.1, up, short, size, own))
             ]
         | inr left ↦
-            let up = no_longer m.space told_walk c.path (rank_some m is) c.counts.arrows (told_late (number m c.path) left) in
-            absurd (omega (arith, up, c.counts.shorter told_walk told_first))
+            let up = no_longer m.space telling_walk c.path (rank_some m is) c.counts.arrows (telling_late (number m c.path) left) in
+            absurd (omega (arith, up, c.counts.shorter telling_walk telling_first))
       ]
 
 -- where all arrows of all pairs are followed
@@ -194,8 +194,8 @@ module _ (m : PointedType) (is : IsPointed m) (at end : ℕ) (found : List (ℕ 
     | inr own ↦ omega (arith, own.0, all, left.within)
   ]
 
-  pub closed_untold : (path : List Arrow) → Tells m path → ⊥
-  closed_untold path tells = none_open (number m path) (tells_open m 0 at end found origins s (rank_some m is) path (omega (arith, s.count)) tells)
+  pub closed_alike : (path : List Arrow) → Tells m path → ⊥
+  closed_alike path tells = none_open (number m path) (tells_open m 0 at end found origins s (rank_some m is) path (omega (arith, s.count)) tells)
 
   pub closed_few : (limit : ℕ) → length found ≤ limit → PairsOutnumber m limit → ⊥
   closed_few limit few = few_pairs m limit (length found) found few (omega arith) among

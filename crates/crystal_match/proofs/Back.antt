@@ -9,34 +9,10 @@ use Rattle.tensor_words.specs.Reach.{IsPath, walk}
 use Rattle.tensor_words.proofs.Keeps.{op_below}
 use Rattle.tensor_words.proofs.KeptWords.{factors_of_space}
 use Rattle.tensor_words.proofs.Strings.{arrows_lead_back}
-use Rattle.signature_rule.proofs.Paths.{path-push, walked}
 use Rattle.crystal_match.specs.Relabelling.{relabelled}
 use Rattle.crystal_match.specs.Telling.{PointedType}
 use Rattle.crystal_match.proofs.Relabels.{turned}
-
--- a walk of no arrow, and one that begins with an arrow
-pub walk-nil : (s : SpaceType) (c : ℕ) → walk s [] c ≡ Some c
-unfolding walk
-walk-nil s c = refl
-
-pub walk-none : (s : SpaceType) (a : Arrow) (path : List Arrow) (c : ℕ) → op s a c ≡ None → walk s (a ∷ path) c ≡ None
-unfolding walk
-walk-none s a path c is = rw is refl
-
-pub walk-cons : (s : SpaceType) (a : Arrow) (path : List Arrow) (c d : ℕ) → op s a c ≡ Some d → walk s (a ∷ path) c ≡ walk s path d
-unfolding walk
-walk-cons s a path c d is = rw is refl
-
-pub walk-push : (s : SpaceType) (path : List Arrow) (a : Arrow) (c d : ℕ) → walk s path c ≡ Some d → walk s (path ++ a ∷ []) c ≡ op s a d
-unfolding walk
-walk-push s [] a c d is =
-    let same : c ≡ d = cc in
-    rw same (elim (op s a d) as (λ o. option_and_then (walk s []) o ≡ o) [ None ↦ refl | Some x ↦ refl ])
-walk-push s (b ∷ path) a c d is =
-    elim (op s b c) as (λ o. option_and_then (walk s path) o ≡ Some d → option_and_then (walk s (path ++ a ∷ [])) o ≡ op s a d) [
-      | None ↦ λ none. cc
-      | Some x ↦ λ rest. walk-push s path a x d rest
-    ] is
+use Rattle.tensor_words.proofs.Walks.{path-push, walk_more}
 
 -- the arrows turned around, from last to first
 abbrev pub back : List Arrow → List Arrow
@@ -67,7 +43,7 @@ walk_back s (a ∷ path) c d space arrows low is =
       | None ↦ λ at none. cc
       | Some x ↦ λ at rest.
           let below : x < size s = op_below s a c x space arrows.0 low at in
-          walked s (back path) (reversed_arrow a) d c x (walk_back s path x d space arrows.1 below rest)
+          walk_more s (back path) (reversed_arrow a) d x c (walk_back s path x d space arrows.1 below rest)
           ((arrows_lead_back s a c x (factors_of_space s space) arrows.0 low below).0 at)
     ] refl is
 

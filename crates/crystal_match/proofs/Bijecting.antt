@@ -12,19 +12,20 @@ use Rattle.crystal_cartan.specs.declared.types.Arrow.{Arrow}
 use Rattle.tensor_words.specs.Spaces.{SpaceType, IsSpace, size}
 use Rattle.tensor_words.specs.Operators.{IsArrow, op}
 use Rattle.tensor_words.specs.Reach.{IsPath, walk, IsReachedFrom}
+use Rattle.tensor_words.proofs.Walks.{walk-nil, walk-cons, walk-none}
 use Rattle.crystal_match.specs.declared.search.PairOrigin.{PairOrigin}
 use Rattle.crystal_match.specs.declared.search.Search.{Search}
-use Rattle.crystal_match.specs.declared.search.SearchEnd.TheVariants.{Closed, Told, TooMany}
+use Rattle.crystal_match.specs.declared.search.SearchEnd.TheVariants.{Closed, Telling, TooMany}
 use Rattle.crystal_match.specs.Relabelling.{relabelled}
 use Rattle.crystal_match.specs.Listings.{pair_at, pair_eq, firsts, seconds}
 use Rattle.crystal_match.specs.Telling.{PointedType, IsPointed, IsFirstTelling}
 use Rattle.crystal_match.specs.Matching.{AreSame, PairsOutnumber}
-use Rattle.crystal_match.specs.Search.{walk_at, AreWalks, number_from, number, IsSettled, IsSearch, IsSearchEnded}
+use Rattle.crystal_match.specs.Search.{walk_at, AreWalks, number_from, number, IsFollowed, IsSearch, IsSearchEnded}
 use Rattle.crystal_match.proofs.PairLists.{pair_equiv, same_pair, pair_place, in_map, from_map}
 use Rattle.crystal_match.proofs.Relabels.{rank_some, relabelled_path, path_twice}
-use Rattle.crystal_match.proofs.Back.{walk-nil, walk-cons, walk-none, back, back_path, walk_below, walk_back, back_relabelled}
-use Rattle.crystal_match.proofs.Settling.{settles}
-use Rattle.crystal_match.proofs.Answering.{none_open, closed_untold, closed_few, told_first, told_few, too_many}
+use Rattle.crystal_match.proofs.Back.{back, back_path, walk_below, walk_back, back_relabelled}
+use Rattle.crystal_match.proofs.Following.{follows_path}
+use Rattle.crystal_match.proofs.Answering.{none_open, closed_alike, closed_few, telling_first, telling_few, too_many}
 
 -- two walks by one list to one word begin at one word
 walks_meet : (s : SpaceType) (path : List Arrow) (c d e : ℕ) → IsSpace s → IsPath s path → c < size s → d < size s → walk s path c ≡ Some e
@@ -52,20 +53,20 @@ module _ (m : PointedType) (is : IsPointed m) (at end : ℕ) (found : List (ℕ 
 
   -- from a pair that was found each list leads to none, or to a pair that was found
   leads_on : (path : List Arrow) (j : ℕ) → IsPath m.space path → j < length found
-      → IsSettled m found s.walks (number_from m.space.cartan.rank (number m (walk_at s.walks j)) path) (walk m.space path (pair_at found j).0)
+      → IsFollowed m found s.walks (number_from m.space.cartan.rank (number m (walk_at s.walks j)) path) (walk m.space path (pair_at found j).0)
       (walk m.space (map (relabelled m.relabel) path) (pair_at found j).1)
-  leads_on path j arrows low = elim (settles m 0 at end found origins s some path j (number m (walk_at s.walks j)) arrows low (omega arith)) [
-    | inl settled ↦ settled
+  leads_on path j arrows low = elim (follows_path m 0 at end found origins s some path j (number m (walk_at s.walks j)) arrows low (omega arith)) [
+    | inl known ↦ known
     | inr left ↦ absurd (none_open m is at end found origins s all (number_from m.space.cartan.rank (number m (walk_at s.walks j)) path) left)
   ]
 
   -- one of the two ends is known
-  by_first : (k : ℕ) (first second : Option ℕ) (x : ℕ) → IsSettled m found s.walks k first second → first ≡ Some x
+  by_first : (k : ℕ) (first second : Option ℕ) (x : ℕ) → IsFollowed m found s.walks k first second → first ≡ Some x
       → (j : ℕ) × (j < length found) × ((pair_at found j).0 ≡ x) × (second ≡ Some (pair_at found j).1)
   by_first k first second x (inl none) at_x = let clash : None ≡ Some x = sym none.0 ∙ at_x in cc
   by_first k first second x (inr f) at_x = let same : Some (pair_at found f.place).0 ≡ Some x = sym f.is_first ∙ at_x in (f.place, f.within, cc, f.is_second)
 
-  by_second : (k : ℕ) (first second : Option ℕ) (y : ℕ) → IsSettled m found s.walks k first second → second ≡ Some y
+  by_second : (k : ℕ) (first second : Option ℕ) (y : ℕ) → IsFollowed m found s.walks k first second → second ≡ Some y
       → (j : ℕ) × (j < length found) × ((pair_at found j).1 ≡ y) × (first ≡ Some (pair_at found j).0)
   by_second k first second y (inl none) at_y = let clash : None ≡ Some y = sym none.1 ∙ at_y in cc
   by_second k first second y (inr f) at_y = let same : Some (pair_at found f.place).1 ≡ Some y = sym f.is_second ∙ at_y in (f.place, f.within, cc, f.is_first)
@@ -74,13 +75,13 @@ module _ (m : PointedType) (is : IsPointed m) (at end : ℕ) (found : List (ℕ 
   second_mark : (j : ℕ) → j < length found → (pair_at found j).0 ≡ m.first → (pair_at found j).1 ≡ m.second
   second_mark j low same = elim (cases_eq (pair_at found j).1 m.second) [
     | inl is ↦ is
-    | inr other ↦ absurd (s.untold j low (inl (same, other)))
+    | inr other ↦ absurd (s.never_apart j low (inl (same, other)))
   ]
 
   first_mark : (j : ℕ) → j < length found → (pair_at found j).1 ≡ m.second → (pair_at found j).0 ≡ m.first
   first_mark j low same = elim (cases_eq (pair_at found j).0 m.first) [
     | inl is ↦ is
-    | inr other ↦ absurd (s.untold j low (inr (other, same)))
+    | inr other ↦ absurd (s.never_apart j low (inr (other, same)))
   ]
 
   -- the list that leads back from a pair that was found to the marks
@@ -170,7 +171,7 @@ module _ (m : PointedType) (is : IsPointed m) (at end : ℕ) (found : List (ℕ 
 
   -- one arrow
   arrow_on : (i : ℕ) (a : Arrow) → i < length found → IsArrow m.space a
-      → IsSettled m found s.walks (number_from m.space.cartan.rank (number m (walk_at s.walks i)) (a ∷ [])) (op m.space a (pair_at found i).0) (op m.space (relabelled m.relabel a) (pair_at found i).1)
+      → IsFollowed m found s.walks (number_from m.space.cartan.rank (number m (walk_at s.walks i)) (a ∷ [])) (op m.space a (pair_at found i).0) (op m.space (relabelled m.relabel a) (pair_at found i).1)
   arrow_on i a low fits =
       let here = leads_on (a ∷ []) i (fits, tt) low in
       rw (one_step m.space a (pair_at found i).0, one_step m.space (relabelled m.relabel a) (pair_at found i).1) at here
@@ -243,33 +244,27 @@ module _ (m : PointedType) (is : IsPointed m) (at end : ℕ) (found : List (ℕ 
         let before : i < length pairs = omega (arith, le, high) in
         rw (get_or-map (λ x. x.0) pairs i (0, 0) d before, get_or-map (λ x. x.0) pairs j (0, 0) d high) (rising i j (0, 0) le high)
 
-    first_all : (c : ℕ) → Contains (firsts pairs) c ↔ IsReachedFrom m.space (m.first ∷ []) c
-    first_all c = (to, from)
+    side_all : (f : ℕ × ℕ → ℕ) (mark c : ℕ) → ((j : ℕ) → j < length found → IsReachedFrom m.space (mark ∷ []) (f (pair_at found j)))
+        → (IsReachedFrom m.space (mark ∷ []) c → (j : ℕ) × (j < length found) × (f (pair_at found j) ≡ c))
+        → Contains (map f pairs) c ↔ IsReachedFrom m.space (mark ∷ []) c
+    side_all f mark c reached place_of = (to, from)
       where
-        to : Contains (firsts pairs) c → IsReachedFrom m.space (m.first ∷ []) c
+        to : Contains (map f pairs) c → IsReachedFrom m.space (mark ∷ []) c
         to h =
-            let p = from_map (λ x. x.0) pairs c h in
+            let p = from_map f pairs c h in
             let place = from_listed p.0 p.1 in
-            subst (λ x. IsReachedFrom m.space (m.first ∷ []) x) (ap (λ (q : ℕ × ℕ). q.0) place.2 ∙ p.2) (first_from place.0 place.1)
+            subst (λ x. IsReachedFrom m.space (mark ∷ []) x) (ap f place.2 ∙ p.2) (reached place.0 place.1)
 
-        from : IsReachedFrom m.space (m.first ∷ []) c → Contains (firsts pairs) c
+        from : IsReachedFrom m.space (mark ∷ []) c → Contains (map f pairs) c
         from r =
-            let h = first_reached c r in
-            subst (λ x. Contains (firsts pairs) x) h.2 (in_map (λ x. x.0) pairs (pair_at found h.0) (to_listed h.0 h.1))
+            let h = place_of r in
+            subst (λ x. Contains (map f pairs) x) h.2 (in_map f pairs (pair_at found h.0) (to_listed h.0 h.1))
+
+    first_all : (c : ℕ) → Contains (firsts pairs) c ↔ IsReachedFrom m.space (m.first ∷ []) c
+    first_all c = side_all (λ x. x.0) m.first c first_from (first_reached c)
 
     second_all : (c : ℕ) → Contains (seconds pairs) c ↔ IsReachedFrom m.space (m.second ∷ []) c
-    second_all c = (to, from)
-      where
-        to : Contains (seconds pairs) c → IsReachedFrom m.space (m.second ∷ []) c
-        to h =
-            let p = from_map (λ x. x.1) pairs c h in
-            let place = from_listed p.0 p.1 in
-            subst (λ x. IsReachedFrom m.space (m.second ∷ []) x) (ap (λ (q : ℕ × ℕ). q.1) place.2 ∙ p.2) (second_from place.0 place.1)
-
-        from : IsReachedFrom m.space (m.second ∷ []) c → Contains (seconds pairs) c
-        from r =
-            let h = second_reached c r in
-            subst (λ x. Contains (seconds pairs) x) h.2 (in_map (λ x. x.1) pairs (pair_at found h.0) (to_listed h.0 h.1))
+    second_all c = side_all (λ x. x.1) m.second c second_from (second_reached c)
 
     arrows_kept : (a : Arrow) (x y u v : ℕ) → IsArrow m.space a → Contains pairs (x, y) → Contains pairs (u, v)
         → (op m.space a x ≡ Some u) ↔ (op m.space (relabelled m.relabel a) y ≡ Some v)
@@ -291,7 +286,7 @@ module _ (m : PointedType) (is : IsPointed m) (at end : ℕ) (found : List (ℕ 
         marks = subst (λ (p : ℕ × ℕ). Contains pairs p) s.marks (to_listed 0 first_there);
         arrows = arrows_kept;
       };
-      untold = closed_untold m is at end found origins s all;
+      never_apart = closed_alike m is at end found origins s all;
     }
 
 -- what a search that has ended answers
@@ -304,13 +299,13 @@ closed_answer m both limit s pairs own is ended order rising =
       closed_few both is s.at s.end s.found s.origins.items ended.0 ended.1 limit ended.2,
     )
 
-pub told_answer : (m both : PointedType) (limit : ℕ) (a : Arrow) (s : Search) (walk : List Arrow) → both ≡ m → IsPointed both → IsSearchEnded both limit (Told a) s
+pub telling_answer : (m both : PointedType) (limit : ℕ) (a : Arrow) (s : Search) (walk : List Arrow) → both ≡ m → IsPointed both → IsSearchEnded both limit (Telling a) s
     → ((walks : List (List Arrow)) → AreWalks s.origins.items walks → walk ≡ walk_at walks s.at ++ a ∷ []) → IsFirstTelling m walk × (PairsOutnumber m limit → ⊥)
-told_answer m both limit a s walk own is ended kept =
+telling_answer m both limit a s walk own is ended kept =
     let P : PointedType → Type 0 = λ b. IsFirstTelling b walk × (PairsOutnumber b limit → ⊥) in
     subst P own (
-      subst (λ (w : List Arrow). IsFirstTelling both w) (sym (kept ended.0.search.walks ended.0.search.are_walks)) (told_first both is a s ended.0),
-      told_few both is a s ended.0 limit ended.1,
+      subst (λ (w : List Arrow). IsFirstTelling both w) (sym (kept ended.0.search.walks ended.0.search.are_walks)) (telling_first both is a s ended.0),
+      telling_few both is a s ended.0 limit ended.1,
     )
 
 pub many_answer : (m both : PointedType) (limit : ℕ) (s : Search) → both ≡ m → IsPointed both → IsSearchEnded both limit TooMany s → PairsOutnumber m limit

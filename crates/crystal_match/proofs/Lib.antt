@@ -4,6 +4,7 @@ pub mod Numbers
 pub mod Relabels
 pub mod Back
 pub mod Stepping
-pub mod Settling
+pub mod Following
 pub mod Answering
 pub mod Bijecting
+pub mod OneVerdict

@@ -1,6 +1,7 @@
 -- Lists of pairs of codes.
-use Rattle.std.proofs.Common.{◌≡◌, refl, sym, ap, ◌∙◌, ℕ, ◌<◌, ◌==◌, ◌&&◌, Bool, true, false, true≢false, eqb-true, List, length, map, get_or, Contains, arith}
+use Rattle.std.proofs.Common.{◌≡◌, refl, sym, ap, ◌∙◌, ℕ, ◌<◌, true, ◌==◌, eqb-true, List, length, map, get_or, Contains, arith}
 use Rattle.std.specs.Cmp.{IsEquivalence}
+use Rattle.std.proofs.lemmas.Bool.{and_parts}
 use Rattle.std.proofs.lemmas.Cmp.{nat_eq_equiv, on_equiv, and_equiv}
 use Rattle.std.proofs.lemmas.List.{get_or_default, get_or-map, length-map}
 use Rattle.std.proofs.lemmas.List.Elements.{Contains-get_or}
@@ -9,16 +10,12 @@ use Rattle.crystal_match.specs.Listings.{pair_at, pair_eq}
 pub pair_equiv : IsEquivalence pair_eq
 pair_equiv = and_equiv (on_equiv (λ (t : ℕ × ℕ). t.0) nat_eq_equiv) (on_equiv (λ (t : ℕ × ℕ). t.1) nat_eq_equiv)
 
-both_true : (b c : Bool) → (b && c) ≡ true → (b ≡ true) × (c ≡ true)
-both_true true c is = (refl, is)
-both_true false c is = absurd (true≢false (sym is))
-
 pub same_pair : (x y : ℕ × ℕ) → x.0 ≡ y.0 → x.1 ≡ y.1 → x ≡ y
 same_pair (a, b) (c, d) first second = rw (first, second) refl
 
 pub pair_exact : (x y : ℕ × ℕ) → pair_eq x y ≡ true → x ≡ y
 pair_exact x y is =
-    let both = both_true (x.0 == y.0) (x.1 == y.1) is in
+    let both = and_parts (x.0 == y.0) (x.1 == y.1) is in
     same_pair x y (eqb-true x.0 y.0 both.0) (eqb-true x.1 y.1 both.1)
 
 -- a place of a pair

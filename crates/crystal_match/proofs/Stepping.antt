@@ -7,16 +7,16 @@ use Rattle.crystal_cartan.specs.declared.types.Arrow.{Arrow}
 use Rattle.tensor_words.specs.Spaces.{size}
 use Rattle.tensor_words.specs.Operators.{IsArrow, op}
 use Rattle.tensor_words.specs.Reach.{walk}
-use Rattle.signature_rule.proofs.Paths.{path-push}
 use Rattle.crystal_match.specs.declared.search.PairOrigin.{PairOrigin}
 use Rattle.crystal_match.specs.Relabelling.{relabelled}
 use Rattle.crystal_match.specs.Listings.{pair_at, no_arrow}
 use Rattle.crystal_match.specs.Telling.{PointedType, IsPointed, AreEndsApart}
 use Rattle.signature_rule.specs.ArrowOrder.{arrow_place}
-use Rattle.crystal_match.specs.Search.{IsEntered, walk_at, origin_at, AreWalks, number, step_number, Leads, IsSettled, IsTried, IsSearch, FollowsPair}
+use Rattle.crystal_match.specs.Search.{IsEntered, walk_at, origin_at, AreWalks, number, step_number, Leads, IsFollowed, IsTried, IsSearch, FollowsPair}
 use Rattle.crystal_match.proofs.Numbers.{place_below, same_arrow, numbered-push}
 use Rattle.crystal_match.proofs.Relabels.{rank_some, relabelled_path}
-use Rattle.crystal_match.proofs.Back.{walk-nil, walk-push, walk_below, map-push}
+use Rattle.crystal_match.proofs.Back.{walk_below, map-push}
+use Rattle.tensor_words.proofs.Walks.{path-push, walk-nil, walk-push}
 
 -- the last element, or one before
 last_or : {X : Type 0} (xs : List X) (x : X) (j : ℕ) → j < length (xs ++ x ∷ []) → (j < length xs) ⊎ (j ≡ length xs)
@@ -41,10 +41,10 @@ begun m is = record {
   within = omega arith;
   marks = refl;
   leads = λ j low. let z : j ≡ 0 = omega (arith, low) in rw z start;
-  untold = λ j low. let z : j ≡ 0 = omega (arith, low) in rw z alike;
+  never_apart = λ j low. let z : j ≡ 0 = omega (arith, low) in rw z alike;
   rising = λ i j less low. absurd (omega (arith, less, low));
   early = λ j there low. let z : j ≡ 0 = omega (arith, low) in rw z (omega (arith, some));
-  settled = λ j a low fits followed. absurd (not_followed j (arrow_place m.space.cartan.rank a) followed);
+  followed = λ j a low fits followed. absurd (not_followed j (arrow_place m.space.cartan.rank a) followed);
   level = 0;
   shorter = λ j low. absurd (omega (arith, low));
   same = λ j low high. absurd (omega (arith, high));
@@ -79,14 +79,14 @@ module _ (m : PointedType) (at end : ℕ) (found : List (ℕ × ℕ)) (origins :
     within = s.within;
     marks = s.marks;
     leads = s.leads;
-    untold = s.untold;
+    never_apart = s.never_apart;
     rising = s.rising;
     early = λ j there within.
         let old = s.early j (omega (arith, there)) within in
         let rises = s.rising at (at + 1) (omega arith) there in
         let up : (number m (walk_at s.walks at) + 1) * (rank + rank) ≤ number m (walk_at s.walks (at + 1)) * (rank + rank) = mul-le-mul_right (rank + rank) (omega (arith, rises)) in
         omega (arith, old, up, all);
-    settled = λ j a within fits followed. s.settled j a within fits (earlier j a fits followed);
+    followed = λ j a within fits followed. s.followed j a within fits (earlier j a fits followed);
     level = s.level;
     shorter = s.shorter;
     same = λ j above below. s.same j (omega (arith, above)) below;
@@ -110,10 +110,10 @@ module _ (m : PointedType) (at end : ℕ) (found : List (ℕ × ℕ)) (origins :
     within = omega arith;
     marks = s.marks;
     leads = s.leads;
-    untold = s.untold;
+    never_apart = s.never_apart;
     rising = s.rising;
     early = s.early;
-    settled = s.settled;
+    followed = s.followed;
     level = s.level + 1;
     shorter = λ j within. elim (cases_lt j end) [
       | inl old ↦ omega (arith, s.shorter j old)
@@ -128,7 +128,7 @@ module _ (m : PointedType) (at end : ℕ) (found : List (ℕ × ℕ)) (origins :
     there = omega (arith, low, s.within)
 
     -- the arrow leads to none, or to a pair that was found
-    stay : IsSettled m found s.walks (step_number m s.walks at n) (op m.space a (pair_at found at).0) (op m.space (relabelled m.relabel a) (pair_at found at).1)
+    stay : IsFollowed m found s.walks (step_number m s.walks at n) (op m.space a (pair_at found at).0) (op m.space (relabelled m.relabel a) (pair_at found at).1)
         → IsSearch m (n + 1) at end found origins
     stay ends = record {
       walks = s.walks;
@@ -138,20 +138,20 @@ module _ (m : PointedType) (at end : ℕ) (found : List (ℕ × ℕ)) (origins :
       within = s.within;
       marks = s.marks;
       leads = s.leads;
-      untold = s.untold;
+      never_apart = s.never_apart;
       rising = s.rising;
       early = λ j here within. omega (arith, s.early j here within);
-      settled = settled;
+      followed = all_followed;
       level = s.level;
       shorter = s.shorter;
       same = s.same;
       longer = s.longer;
     }
       where
-        settled : (j : ℕ) (b : Arrow) → j < length found → IsArrow m.space b → IsTried (n + 1) at j (arrow_place m.space.cartan.rank b)
-            → IsSettled m found s.walks (step_number m s.walks j (arrow_place m.space.cartan.rank b)) (op m.space b (pair_at found j).0) (op m.space (relabelled m.relabel b) (pair_at found j).1)
-        settled j b within is followed = elim (was_followed n at j (arrow_place m.space.cartan.rank b) followed) [
-          | inl old ↦ s.settled j b within is old
+        all_followed : (j : ℕ) (b : Arrow) → j < length found → IsArrow m.space b → IsTried (n + 1) at j (arrow_place m.space.cartan.rank b)
+            → IsFollowed m found s.walks (step_number m s.walks j (arrow_place m.space.cartan.rank b)) (op m.space b (pair_at found j).0) (op m.space (relabelled m.relabel b) (pair_at found j).1)
+        all_followed j b within is followed = elim (was_followed n at j (arrow_place m.space.cartan.rank b) followed) [
+          | inl old ↦ s.followed j b within is old
           | inr new ↦
               let same : b ≡ a = same_arrow m.space b a is fits (new.1 ∙ sym place) in
               rw (same, new.0, place) ends
@@ -178,10 +178,10 @@ module _ (m : PointedType) (at end : ℕ) (found : List (ℕ × ℕ)) (origins :
       within = omega (arith, s.within, more);
       marks = old_pair 0 (omega (arith, there)) ∙ s.marks;
       leads = leads;
-      untold = untold;
+      never_apart = never_apart;
       rising = rising;
       early = early;
-      settled = settled;
+      followed = all_followed;
       level = s.level;
       shorter = λ j below. rw (old_walk j (omega (arith, below, s.within))) (s.shorter j below);
       same = λ j above below. rw (old_walk j (omega (arith, below, s.within))) (s.same j above below);
@@ -229,10 +229,10 @@ module _ (m : PointedType) (at end : ℕ) (found : List (ℕ × ℕ)) (origins :
           | inr new ↦ rw (new_walk j new, new_pair j new) own_leads
         ]
 
-        untold : (j : ℕ) → j < length (found ++ (x, y) ∷ [])
+        never_apart : (j : ℕ) → j < length (found ++ (x, y) ∷ [])
             → AreEndsApart m (Some (pair_at (found ++ (x, y) ∷ []) j).0) (Some (pair_at (found ++ (x, y) ∷ []) j).1) → ⊥
-        untold j within = elim (last_or found (x, y) j within) [
-          | inl old ↦ rw (old_pair j old) (s.untold j old)
+        never_apart j within = elim (last_or found (x, y) j within) [
+          | inl old ↦ rw (old_pair j old) (s.never_apart j old)
           | inr new ↦ rw (new_pair j new) alike
         ]
 
@@ -250,7 +250,7 @@ module _ (m : PointedType) (at end : ℕ) (found : List (ℕ × ℕ)) (origins :
               | inr new ↦ let same = ap (λ (p : List Arrow). number m p) (new_walk j new) in omega (arith, next, same, own_number)
             ]
 
-        lift : (k : ℕ) (first second : Option ℕ) → IsSettled m found s.walks k first second → IsSettled m (found ++ (x, y) ∷ []) longer_walks k first second
+        lift : (k : ℕ) (first second : Option ℕ) → IsFollowed m found s.walks k first second → IsFollowed m (found ++ (x, y) ∷ []) longer_walks k first second
         lift k first second (inl none) = inl none
         lift k first second (inr f) = inr (record {
           place = f.place;
@@ -260,8 +260,8 @@ module _ (m : PointedType) (at end : ℕ) (found : List (ℕ × ℕ)) (origins :
           early = rw (old_walk f.place f.within) f.early;
         })
 
-        own_settled : IsSettled m (found ++ (x, y) ∷ []) longer_walks (step_number m s.walks at n) (op m.space a (pair_at found at).0) (op m.space (relabelled m.relabel a) (pair_at found at).1)
-        own_settled = inr (record {
+        own_followed : IsFollowed m (found ++ (x, y) ∷ []) longer_walks (step_number m s.walks at n) (op m.space a (pair_at found at).0) (op m.space (relabelled m.relabel a) (pair_at found at).1)
+        own_followed = inr (record {
           place = length found;
           within = omega (arith, more);
           is_first = rw (new_pair (length found) refl) is_x;
@@ -269,17 +269,17 @@ module _ (m : PointedType) (at end : ℕ) (found : List (ℕ × ℕ)) (origins :
           early = let same = ap (λ (p : List Arrow). number m p) (new_walk (length found) refl) in omega (arith, same, own_number);
         })
 
-        settled : (j : ℕ) (b : Arrow) → j < length (found ++ (x, y) ∷ []) → IsArrow m.space b → IsTried (n + 1) at j (arrow_place m.space.cartan.rank b)
-            → IsSettled m (found ++ (x, y) ∷ []) longer_walks (step_number m longer_walks j (arrow_place m.space.cartan.rank b)) (op m.space b (pair_at (found ++ (x, y) ∷ []) j).0) (op m.space (relabelled m.relabel b) (pair_at (found ++ (x, y) ∷ []) j).1)
-        settled j b within is followed =
+        all_followed : (j : ℕ) (b : Arrow) → j < length (found ++ (x, y) ∷ []) → IsArrow m.space b → IsTried (n + 1) at j (arrow_place m.space.cartan.rank b)
+            → IsFollowed m (found ++ (x, y) ∷ []) longer_walks (step_number m longer_walks j (arrow_place m.space.cartan.rank b)) (op m.space b (pair_at (found ++ (x, y) ∷ []) j).0) (op m.space (relabelled m.relabel b) (pair_at (found ++ (x, y) ∷ []) j).1)
+        all_followed j b within is followed =
             elim (was_followed n at j (arrow_place m.space.cartan.rank b) followed) [
               | inl old ↦
                   let before : j < length found = begun_before old in
                   rw (old_next j (arrow_place m.space.cartan.rank b) before, old_pair j before)
-                  (lift (step_number m s.walks j (arrow_place m.space.cartan.rank b)) (op m.space b (pair_at found j).0) (op m.space (relabelled m.relabel b) (pair_at found j).1) (s.settled j b before is old))
+                  (lift (step_number m s.walks j (arrow_place m.space.cartan.rank b)) (op m.space b (pair_at found j).0) (op m.space (relabelled m.relabel b) (pair_at found j).1) (s.followed j b before is old))
               | inr new ↦
                   let same : b ≡ a = same_arrow m.space b a is fits (new.1 ∙ sym place) in
-                  rw (same, new.0, place, old_next at n there, old_pair at there) own_settled
+                  rw (same, new.0, place, old_next at n there, old_pair at there) own_followed
             ]
           where
             begun_before : IsTried n at j (arrow_place m.space.cartan.rank b) → j < length found

@@ -19,7 +19,3 @@ pair_at xs k = slice_index_or xs k (0, 0)
 
 abbrev pub no_arrow : Arrow
 no_arrow = record { down = true; index = 0 }
-
--- the arrow at a place, counted from 0
-abbrev pub arrow_in : List Arrow → ℕ → Arrow
-arrow_in xs k = slice_index_or xs k no_arrow

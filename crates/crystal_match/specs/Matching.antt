@@ -29,7 +29,7 @@ pub record IsMatching (m : PointedType) (pairs : List (ℕ × ℕ)) : Type 0 whe
 -- the components match, and no list of arrows tells the marks apart
 pub record AreSame (m : PointedType) (pairs : List (ℕ × ℕ)) : Type 0 where
   pub matching : IsMatching m pairs
-  pub untold : (path : List Arrow) → Tells m path → ⊥
+  pub never_apart : (path : List Arrow) → Tells m path → ⊥
 
 abbrev pub IsVerdict : PointedType → Verdict → Type 0
 IsVerdict m (Same pairs) = AreSame m pairs

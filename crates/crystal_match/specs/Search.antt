@@ -7,7 +7,7 @@ use Rattle.tensor_words.specs.Reach.{IsPath}
 use Rattle.crystal_match.specs.declared.search.PairOrigin.{PairOrigin}
 use Rattle.crystal_match.specs.declared.search.Search.{Search}
 use Rattle.crystal_match.specs.declared.search.SearchEnd.{SearchEnd}
-use Rattle.crystal_match.specs.declared.search.SearchEnd.TheVariants.{Closed, Told, TooMany}
+use Rattle.crystal_match.specs.declared.search.SearchEnd.TheVariants.{Closed, Telling, TooMany}
 use Rattle.crystal_match.specs.Relabelling.{relabelled}
 use Rattle.crystal_match.specs.Listings.{pair_at, pair_eq, no_arrow}
 use Rattle.crystal_match.specs.Telling.{PointedType, first_end, second_end, AreEndsApart}
@@ -61,14 +61,14 @@ pub record IsFoundBy (m : PointedType) (found : List (ℕ × ℕ)) (walks : List
   pub early : number m (walk_at walks place) ≤ n
 
 -- neither end is a word, or both are those of a pair that was found
-abbrev pub IsSettled : PointedType → List (ℕ × ℕ) → List (List Arrow) → ℕ → Option ℕ → Option ℕ → Type 0
-IsSettled m found walks n first second = ((first ≡ None) × (second ≡ None)) ⊎ IsFoundBy m found walks n first second
+abbrev pub IsFollowed : PointedType → List (ℕ × ℕ) → List (List Arrow) → ℕ → Option ℕ → Option ℕ → Type 0
+IsFollowed m found walks n first second = ((first ≡ None) × (second ≡ None)) ⊎ IsFoundBy m found walks n first second
 
 -- the search has followed the arrows of all pairs before `at`, and of the pair at `at` the first n
 abbrev pub IsTried : ℕ → ℕ → ℕ → ℕ → Type 0
 IsTried n at j place = (j < at) ⊎ ((j ≡ at) × (place < n))
 
--- a search that has not told the marks apart yet
+-- a search that has found no list of arrows that tells the marks apart
 pub record IsSearch (m : PointedType) (n at end : ℕ) (found : List (ℕ × ℕ)) (origins : List PairOrigin) : Type 0 where
   pub walks : List (List Arrow)
   pub are_walks : AreWalks origins walks
@@ -77,13 +77,13 @@ pub record IsSearch (m : PointedType) (n at end : ℕ) (found : List (ℕ × ℕ
   pub within : end ≤ length found
   pub marks : pair_at found 0 ≡ (m.first, m.second)
   pub leads : (j : ℕ) → j < length found → Leads m (walk_at walks j) (pair_at found j)
-  pub untold : (j : ℕ) → j < length found → AreEndsApart m (Some (pair_at found j).0) (Some (pair_at found j).1) → ⊥
+  pub never_apart : (j : ℕ) → j < length found → AreEndsApart m (Some (pair_at found j).0) (Some (pair_at found j).1) → ⊥
   -- the kept lists rise, and all come before the next one to be tried
   pub rising : (i j : ℕ) → i < j → j < length found → number m (walk_at walks i) < number m (walk_at walks j)
   pub early : (j : ℕ) → at < length found → j < length found → number m (walk_at walks j) < step_number m walks at n
-  pub settled :
+  pub followed :
       (j : ℕ) (a : Arrow) → j < length found → IsArrow m.space a → IsTried n at j (arrow_place m.space.cartan.rank a) →
-      IsSettled m found walks (step_number m walks j (arrow_place m.space.cartan.rank a)) (op m.space a (pair_at found j).0) (op m.space (relabelled m.relabel a) (pair_at found j).1)
+      IsFollowed m found walks (step_number m walks j (arrow_place m.space.cartan.rank a)) (op m.space a (pair_at found j).0) (op m.space (relabelled m.relabel a) (pair_at found j).1)
   -- the pairs from `at` to `end` are those that are first reached by lists of one length; those before are reached by
   -- shorter ones, those behind by lists with one arrow more
   pub level : ℕ
@@ -103,7 +103,7 @@ FollowsPair at a (Some x) None found origins new later = (new ≡ found) × (lat
 FollowsPair at a None second found origins new later = (new ≡ found) × (later ≡ origins)
 
 -- the arrow tells the marks apart behind the list that is kept for the pair at `at`, and nothing before it does
-pub record IsTold (m : PointedType) (a : Arrow) (s : Search) : Type 0 where
+pub record IsTelling (m : PointedType) (a : Arrow) (s : Search) : Type 0 where
   pub search : IsSearching m (arrow_place m.space.cartan.rank a) s
   pub at : s.at < s.end
   pub arrow : IsArrow m.space a
@@ -112,7 +112,7 @@ pub record IsTold (m : PointedType) (a : Arrow) (s : Search) : Type 0 where
 -- how a search ends
 abbrev pub IsSearchEnded : PointedType → ℕ → SearchEnd → Search → Type 0
 IsSearchEnded m limit Closed s = IsSearching m 0 s × (s.at ≡ length s.found) × (length s.found ≤ limit) × IsDistinct pair_eq s.found
-IsSearchEnded m limit (Told a) s = IsTold m a s × (s.end ≤ limit)
+IsSearchEnded m limit (Telling a) s = IsTelling m a s × (s.end ≤ limit)
 IsSearchEnded m limit TooMany s = IsSearching m 0 s × (s.at ≡ s.end) × (s.at < length s.found) × (limit < length s.found) × IsDistinct pair_eq s.found
 
 -- some lists of arrows are kept by the origins

@@ -74,7 +74,7 @@ fn compared(
         SearchEnd::Closed => Ok(Some(Verdict::Same {
             pairs: search.pairs(alloc)?,
         })),
-        SearchEnd::Told { arrow } => Ok(Some(Verdict::Differs {
+        SearchEnd::Telling { arrow } => Ok(Some(Verdict::Differs {
             walk: search.walk(alloc, arrow)?,
         })),
         SearchEnd::TooMany => Ok(None),

@@ -7,7 +7,7 @@ ghost use Rattle.std.specs.List.Sorted.{IsPermutation, IsNonDecreasingBy};
 ghost use Rattle.crystal_cartan.specs.declared.types.Arrow.{Arrow as ArrowType};
 ghost use Rattle.crystal_match.specs.Telling.{IsPointed};
 ghost use Rattle.signature_rule.specs.ArrowOrder.{arrow_place};
-ghost use Rattle.crystal_match.specs.Search.{IsSearching, IsTold, IsSearchEnded, FollowsPair, HasWalks, AreWalks, walk_at};
+ghost use Rattle.crystal_match.specs.Search.{IsSearching, IsTelling, IsSearchEnded, FollowsPair, HasWalks, AreWalks, walk_at};
 
 use crate::found::FoundPairs;
 use crate::listings::{Arrows, Pairs};
@@ -40,7 +40,7 @@ pub(crate) enum SearchEnd {
     /// No list of arrows tells the marks apart.
     Closed,
     /// The arrow, behind the list that reaches the pair at `at` first, tells them apart.
-    Told { arrow: Arrow },
+    Telling { arrow: Arrow },
     /// There are more pairs than the limit.
     TooMany,
 }
@@ -80,7 +80,7 @@ impl Search {
                 self.end = self.found.len();
             }
             if let Some(arrow) = self.expand(both)? {
-                return Ok(SearchEnd::Told { arrow });
+                return Ok(SearchEnd::Telling { arrow });
             }
         }
         Ok(SearchEnd::Closed)
@@ -90,7 +90,7 @@ impl Search {
     fn expand(&mut self, both: &mut MarkedSpace) -> Result<Option<Arrow>, AllocError>
         requires searching { IsSearching both.old 0 self.old }
         requires at { self.old.at < self.old.end }
-        ensures expanded { IfOk result (λ told. MatchOption told (IsSearching both.old 0 self.new × (self.new.at ≡ self.old.at + 1)) (λ arrow. IsTold both.old arrow self.new)) }
+        ensures expanded { IfOk result (λ found. MatchOption found (IsSearching both.old 0 self.new × (self.new.at ≡ self.old.at + 1)) (λ arrow. IsTelling both.old arrow self.new)) }
         ensures end { self.new.end ≡ self.old.end }
         ensures same { both.new ≡ both.old }
     {

@@ -9,12 +9,12 @@ use Rattle.canonical_graph.specs.Graphs.{FinishedType}
 use Rattle.graph_history.specs.declared.event.Event.{Event}
 use Rattle.job_text.specs.declared.commands.Ask.{Ask}
 use Rattle.job_text.specs.declared.jobs.Job.{Job}
-use Rattle.job_text.specs.Jobs.{IsAsk, IsJob, added_codes}
-use Rattle.job_text.proofs.Ascending.{ascending_has}
+use Rattle.job_text.specs.Jobs.{IsAsk, IsJob}
 use Rattle.session_desk.specs.declared.reply.Reply.{Reply}
 use Rattle.session_desk.specs.Texts.{IsPrintable}
 use Rattle.answer_text.specs.Answers.{ArePrintable}
 use Rattle.graph_runs.specs.Runs.{EndsRun, closed, spent}
+use Rattle.job_text.proofs.Starts.{starts_are_roots}
 
 -- the graph of a world: its component list, whose words fit the cells
 pub record IsGraph (w : WorldType) (f : FinishedType) : Type 0 where
@@ -27,13 +27,6 @@ ended_graph w front f (closed codes all listed list fits) = record { space = ref
 
 pub ended_full : (w : WorldType) (front : List Event) → EndsRun w front None → Outnumber w
 ended_full w front (spent none more) = more
-
--- the starts are roots
-pub starts_are_roots : (j : Job) → IsJob j → All (Contains j.world.roots) j.starts
-starts_are_roots j is k d below =
-    subst (λ roots. Contains roots (get_or j.starts k d)) (sym is.roots)
-    (ascending_has (j.starts ++ flat_map added_codes j.scripts) (get_or j.starts k d)
-    (Contains-append_left j.starts (flat_map added_codes j.scripts) (get_or j.starts k d) (Contains-get_or j.starts k d below)))
 
 -- the first start is a vertex
 pub start_listed : (j : Job) (codes : List ℕ) (x : ℕ) → IsJob j → IsComponentList j.world codes → x ≡ slice_index j.starts 0 → Contains codes x

@@ -3,8 +3,6 @@ pub mod Texts
 pub mod Parts
 pub mod Histories
 pub mod Cases
-pub mod WideCases
 pub mod Ends
-pub mod Verdicts
 pub mod Determined
 pub mod Unspent

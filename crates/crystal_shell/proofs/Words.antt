@@ -1,5 +1,5 @@
--- What command words ask for.
-use Rattle.std.proofs.Common.{◌≡◌, ◌∙◌, ℕ, List, Some, None, Ok, Err, inl, inr, sym, ap, map, subst, Option}
+-- What command words are judged to ask for.
+use Rattle.std.proofs.Common.{◌≡◌, ◌∙◌, ℕ, List, Some, None, Ok, Err, inl, inr, sym, ap, map, subst, Result}
 use Rattle.command_words.specs.Judge.{IsAnswer, judge_words}
 use Rattle.command_words.specs.Fault.{fault_number}
 use Rattle.command_words.specs.declared.fault.WordsFault.{WordsFault}
@@ -7,27 +7,25 @@ use Rattle.command_words.specs.declared.fault.WordsFault.TheVariants.{NoMemory}
 use Rattle.command_words.specs.declared.settings.Settings.{Settings}
 use Rattle.crystal_characters.specs.declared.items.Item.{Item}
 use Rattle.crystal_shell.specs.Statistics.{names_of}
-use Rattle.crystal_shell.specs.Heard.{heard_in, heard_of, number_or_zero}
-use Rattle.crystal_shell.specs.declared.hearing.Heard.{Heard}
-use Rattle.crystal_shell.specs.declared.hearing.Heard.TheVariants.{Refused}
 
-pub heard_settings : (words names : List (List ℕ)) (settings : Settings) (heard : Heard) → heard ≡ heard_of (Ok settings)
-    → IsAnswer (judge_words words names) (Ok settings) → heard ≡ heard_in words names
-heard_settings words names settings heard is (inl told) = is ∙ ap heard_of told
-heard_settings words names settings heard is (inr short) = absurd (cc)
+settings_judged : (meaning : Result Settings WordsFault) (settings : Settings) → IsAnswer meaning (Ok settings) → Ok settings ≡ meaning
+settings_judged meaning settings (inl judged) = judged
+settings_judged meaning settings (inr short) = absurd (cc)
 
-pub heard_refusal : (words names : List (List ℕ)) (fault : WordsFault) (number : ℕ) → fault_number fault ≡ Some number
-    → IsAnswer (judge_words words names) (Err fault) → Refused number ≡ heard_in words names
-heard_refusal words names fault number is (inl told) =
-    ap (λ (o : Option ℕ). Refused (number_or_zero o)) (sym is) ∙ ap heard_of told
-heard_refusal words names fault number is (inr short) =
+fault_judged : (meaning : Result Settings WordsFault) (fault : WordsFault) (number : ℕ) → fault_number fault ≡ Some number → IsAnswer meaning (Err fault) → Err fault ≡ meaning
+fault_judged meaning fault number is (inl judged) = judged
+fault_judged meaning fault number is (inr short) =
     let gone : fault ≡ NoMemory = cc in
     let clash : Some number ≡ None = sym is ∙ ap fault_number gone in
     absurd (cc)
 
--- through a slice of the statistics
-pub heard_through : {B : Type 0} (name : B → List ℕ) (reports : B → List Item → List ℕ) (xs ys : List B) (words : List (List ℕ)) (heard : Heard) → xs ≡ ys
-    → heard ≡ heard_in words (names_of (map (λ b. record { name = name b; reports = reports b }) xs))
-    → heard ≡ heard_in words (names_of (map (λ b. record { name = name b; reports = reports b }) ys))
-heard_through {B} name reports xs ys words heard same is =
-    subst (λ (bs : List B). heard ≡ heard_in words (names_of (map (λ b. record { name = name b; reports = reports b }) bs))) same is
+-- the names come through a slice of the statistics
+module _ {B : Type 0} (name : B → List ℕ) (reports : B → List Item → List ℕ) (xs ys : List B) (words : List (List ℕ)) (same : xs ≡ ys) where
+  abbrev judged_with : List B → Result Settings WordsFault
+  judged_with bs = judge_words words (names_of (map (λ b. record { name = name b; reports = reports b }) bs))
+
+  pub settings_through : (settings : Settings) → IsAnswer (judged_with xs) (Ok settings) → Ok settings ≡ judged_with ys
+  settings_through settings answer = settings_judged (judged_with xs) settings answer ∙ ap judged_with same
+
+  pub fault_through : (fault : WordsFault) (number : ℕ) → fault_number fault ≡ Some number → IsAnswer (judged_with xs) (Err fault) → Err fault ≡ judged_with ys
+  fault_through fault number is answer = fault_judged (judged_with xs) fault number is answer ∙ ap judged_with same

@@ -5,6 +5,7 @@ use Rattle.crystal_streams.specs.Reads.{TakesExactly}
 use Rattle.job_text.specs.Faults.{Refusal, why_number}
 use Rattle.job_text.specs.Jobs.{IsJob, most_job_bytes}
 use Rattle.job_text.specs.Judge.{judge}
+use Rattle.job_text.specs.declared.faults.JobWhy.TheVariants.{TooLong}
 use Rattle.job_text.specs.declared.jobs.Job.{Job}
 use Rattle.crystal_shell.specs.declared.inputs.Input.{Input}
 use Rattle.crystal_shell.specs.declared.inputs.Input.TheVariants.{Refused, Taken}
@@ -19,9 +20,9 @@ abbrev pub by_number : Result Job Refusal → Input
 by_number (Ok job) = Taken job
 by_number (Err r) = Refused r.line (why_number r.why)
 
--- what an input says: one that is too long is refused with the fault 14, and no line, whatever its bytes are
+-- what an input says: one that is too long is refused as `TooLong`, at no line, whatever its bytes are
 abbrev pub judged_input : List ℕ → Input
-judged_input input = if nat_lt most_job_bytes (length input) then Refused 0 14 else by_number (judge input)
+judged_input input = if nat_lt most_job_bytes (length input) then Refused 0 (why_number TooLong) else by_number (judge input)
 
 -- a job that is taken is one that a text can give
 abbrev pub IsLawful : Input → Type 0

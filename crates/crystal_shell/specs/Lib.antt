@@ -1,8 +1,6 @@
 pub mod Statistics
-pub mod Heard
 pub mod Inputs
-pub mod Wide
-pub mod Answers
+pub mod Modes
 pub mod Runs
-pub mod NoAnswers
+pub mod Statuses
 pub mod Laws

@@ -9,11 +9,8 @@ ghost use Rattle.crystal_shell.specs.Inputs.{IsInput, IsLawful, ReadsJob, by_num
 
 use crate::outcomes::NoAnswer;
 use crystal_streams::{NoMemory, ReadEnd, Source, read_all};
-use job_text::{Job, JobFault, MOST_JOB_BYTES, read_job};
+use job_text::{Job, JobFault, JobWhy, MOST_JOB_BYTES, read_job};
 use std::alloc::Global;
-
-/// The fault of a job that is too long.
-const TOO_LONG: u8 = 14;
 
 /// What an input says.
 #[derive(Drop)]
@@ -37,7 +34,7 @@ pub(crate) fn read_input<R: Source>(alloc: Global, source: &mut R) -> Result<Inp
         Ok(bytes) => Ok(read_text(alloc, bytes.as_slice())?),
         Err(ReadEnd::TooLong) => Ok(Input::Refused {
             line: 0,
-            fault: TOO_LONG,
+            fault: JobWhy::TooLong.number(),
         }),
         Err(ReadEnd::ReadFault) => Err(NoAnswer::ReadFault),
         Err(ReadEnd::NoMemory) => Err(NoAnswer::NoMemory),

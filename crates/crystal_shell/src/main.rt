@@ -4,37 +4,33 @@
 //! words and the input call for, under the status that they call for; where a stream fails or memory is short its
 //! status says so. `main` hands it the words, the standard streams and the three statistics.
 //!
-//! Its modules follow a run: `hearing` has the command words, `inputs` the job, `growing`, `samples`, `counting`,
-//! `matching` and `widening` a mode each, `statistics` what is chosen, fed and reported, `refusals` the answers to refused words and
-//! jobs, `outcomes` what a run ends with. `laws` says what words and input determine of an answer.
+//! Its modules follow a run: `statistics` reads the command words, by the names of the statistics, `inputs` the job; `modes`
+//! has a module for each mode, `statistics` what is fed and reported, `refusals` the answers to refused words and jobs,
+//! `outcomes` what a run ends with. `laws` says what words and input determine of an answer.
 //!
 //! **Stands on** command_words and job_text for what is read, graph_runs for the run of a job, tableau_census,
 //! crystal_match and wide_growth for the other modes, crystal_characters and ask_answers for statistics and asks, and answer_text, which
 //! alone prints.
 #![tactic(auto)]
 
-mod counting;
-mod growing;
-mod hearing;
 mod inputs;
 mod laws;
-mod matching;
+mod modes;
 mod outcomes;
 mod refusals;
 mod running;
-mod samples;
 mod statistics;
 #[cfg(test)]
 mod tests;
-mod widening;
 
 use crystal_characters::{CharacterTally, EndTally, Statistic, StringTally};
-use crystal_streams::{InputAdapter, OpenGate, OutputAdapter, Sink, Source};
+use crystal_streams::{InputAdapter, OutputAdapter, Sink, Source};
 use std::alloc::{AllocError, Global};
 use std::io::ErrorKind;
 use std::process::ExitCode;
 use std::thread::Threads;
 use std::{env, io};
+use worker_gate::OpenGate;
 
 /// The status where there is no memory.
 const NO_MEMORY: u8 = 6;

@@ -1,7 +1,6 @@
 //! What a run comes to.
 ghost use Rattle.std.specs.Prelude.{◌≡◌, [], None};
-ghost use Rattle.crystal_shell.specs.Answers.{status_number};
-ghost use Rattle.crystal_shell.specs.NoAnswers.{no_answer_number};
+ghost use Rattle.crystal_shell.specs.Statuses.{status_number, no_answer_number};
 
 use answer_text::Answer;
 use crystal_streams::NoMemory;

@@ -2,27 +2,29 @@
 ghost use Rattle.std.specs.Prelude.{◌≡◌, ◌≤◌, ◌⊎◌, ℕ, List, [], None, Ok, IfOk, IsOk, IsErrOf, length, map, string_bytes, take};
 ghost use Rattle.std.specs.Io.KnownBytes.{Appends};
 ghost use Rattle.crystal_streams.specs.Faults.{Rose};
-ghost use Rattle.crystal_shell.specs.Statistics.{AreFresh, Reporter};
+ghost use Rattle.crystal_shell.specs.Statistics.{AreFresh, Reporter, names_of};
 ghost use Rattle.answer_text.specs.Answers.{IsPrintableAnswer, answer_bytes};
-ghost use Rattle.crystal_shell.specs.Answers.{status_number};
-ghost use Rattle.crystal_shell.specs.NoAnswers.{no_answer_number};
+ghost use Rattle.command_words.specs.Judge.{FitsNames, judge_words};
+ghost use Rattle.crystal_shell.specs.Statuses.{status_number, no_answer_number};
 ghost use Rattle.crystal_shell.specs.Runs.{Called, HasRead, IsRun, IsWritten};
 
-use crate::counting::count;
-use crate::growing::grow;
-use crate::hearing::{Heard, hear};
 use crate::inputs::read_input;
-use crate::matching::matched;
+use crate::modes::census::count;
+use crate::modes::grow::grow;
+use crate::modes::match_mode::matched;
+use crate::modes::sample::sample;
+use crate::modes::wide::widen;
 use crate::outcomes::{Answered, NoAnswer, Outcome};
 use crate::refusals::refused_words;
-use crate::samples::sample;
-use crate::widening::widen;
+use crate::statistics::read_settings;
 use answer_text::{Page, print_answer};
+use command_words::Settings;
 use crystal_characters::Statistic;
-use crystal_streams::{Gate, Sink, Source, WriteFault};
+use crystal_streams::{Sink, Source, WriteFault};
 use graph_history::Front;
 use std::alloc::Global;
 use std::thread::Threads;
+use worker_gate::Gate;
 
 /// The status where a write failed.
 const WRITE_FAULT: u8 = 5;
@@ -45,7 +47,7 @@ pub fn run<T: Threads + Sync, R: Source, W: Sink, G: Gate>(
 ) -> Outcome
     requires { AreFresh (λ b. named b) (λ b. fed b) stats.items }
     ensures { let reporters : List Reporter = map (λ b. record { name = named b; reports = reported b }) stats.items in
-        IsRun (λ s. R.left s) (λ s. R.faults s) (λ s. W.held s) (λ s. W.faults s) reporters (map string_bytes words.now)
+        IsRun (λ s. R.left s) (λ s. R.faults s) (λ s. W.taken s) (λ s. W.faults s) reporters (map string_bytes words.now)
         source.old source.new sink.old sink.new result }
 {
     let Ok(page) = Page::new(alloc) else {
@@ -77,7 +79,7 @@ fn write_answer<W: Sink>(sink: &mut W, page: Page, answered: Answered) -> Outcom
     requires printable { IsPrintableAnswer answered.answer }
     ensures front { result.front ≡ answered.front }
     ensures held { result.held ≡ answered.held }
-    ensures written { IsWritten (W.held sink.old) (W.held sink.new) (W.faults sink.old) (W.faults sink.new)
+    ensures written { IsWritten (W.taken sink.old) (W.taken sink.new) (W.faults sink.old) (W.faults sink.new)
         answered.status (answer_bytes answered.answer) result.status }
     ensures later { W.faults sink.old ≤ W.faults sink.new }
 {
@@ -112,26 +114,50 @@ fn answer<T: Threads + Sync, R: Source, G: Gate>(
 ) -> Result<Answered, NoAnswer>
     requires { AreFresh (λ b. named b) (λ b. fed b) stats.old.items }
     ensures called { let reporters : List Reporter = map (λ b. record { name = named b; reports = reported b }) stats.old.items in
-        IfOk result (λ a. Called reporters (map string_bytes words.now) (R.left source.old) a.status a.front a.held (answer_bytes a.answer)) }
+        IfOk result (λ a. Called reporters (judge_words (map string_bytes words.now) (names_of reporters)) (R.left source.old)
+        a.status a.front a.held (answer_bytes a.answer)) }
     ensures printable { IfOk result (λ a. IsPrintableAnswer a.answer) }
     ensures read { let reporters : List Reporter = map (λ b. record { name = named b; reports = reported b }) stats.old.items in
-        HasRead (λ s. R.left s) (λ s. R.faults s) reporters (map string_bytes words.now) source.old source.new
+        HasRead (λ s. R.left s) (λ s. R.faults s) (judge_words (map string_bytes words.now) (names_of reporters)) source.old source.new
         (IsOk result) (IsErrOf result NoAnswer.ReadFault) }
 {
-    let heard = hear(alloc, words, stats.as_slice())?;
-    match heard {
-        Heard::Refused { fault } => Ok(refused_words(fault)),
-        Heard::Grow { growers, places } => {
+    match read_settings(alloc, words, stats.as_slice()) {
+        Ok(settings) => answer_settings(rt, alloc, settings, source, stats, gate),
+        Err(fault) => match fault.number() {
+            Some(number) => Ok(refused_words(number)),
+            None => Err(NoAnswer::NoMemory),
+        },
+    }
+}
+
+/// The answer that settings and the source call for: a line a mode.
+fn answer_settings<T: Threads + Sync, R: Source, G: Gate>(
+    rt: &T,
+    alloc: Global,
+    settings: Settings,
+    source: &mut R,
+    stats: &mut Vec<Box<dyn Statistic>>,
+    gate: &G,
+) -> Result<Answered, NoAnswer>
+    requires fits { FitsNames (length stats.old.items) settings }
+    requires fresh { AreFresh (λ b. named b) (λ b. fed b) stats.old.items }
+    ensures called { let reporters : List Reporter = map (λ b. record { name = named b; reports = reported b }) stats.old.items in
+        IfOk result (λ a. Called reporters (Ok settings) (R.left source.old) a.status a.front a.held (answer_bytes a.answer)) }
+    ensures printable { IfOk result (λ a. IsPrintableAnswer a.answer) }
+    ensures read { HasRead (λ s. R.left s) (λ s. R.faults s) (Ok settings) source.old source.new (IsOk result) (IsErrOf result NoAnswer.ReadFault) }
+{
+    match settings {
+        Settings::Grow { growers, chosen } => {
             let input = read_input(alloc, source)?;
-            Ok(grow(rt, alloc, input, growers, stats, &places, gate)?)
+            Ok(grow(rt, alloc, input, growers, stats, &chosen, gate)?)
         }
-        Heard::Sample { growers, number } => Ok(sample(rt, alloc, growers, number, gate)?),
-        Heard::Census { shape } => Ok(count(alloc, shape)?),
-        Heard::Match { relabelling } => {
+        Settings::Sample { growers, number } => Ok(sample(rt, alloc, growers, number, gate)?),
+        Settings::Census { shape } => Ok(count(alloc, shape)?),
+        Settings::Match { relabelling } => {
             let input = read_input(alloc, source)?;
             Ok(matched(alloc, input, relabelling)?)
         }
-        Heard::Wide { growers } => {
+        Settings::Wide { growers } => {
             let input = read_input(alloc, source)?;
             Ok(widen(rt, alloc, input, growers, gate)?)
         }

@@ -1,10 +1,9 @@
 //! Statistics: chosen by their names, fed with the vertices of a finished graph, and reported.
 ghost use Rattle.std.specs.Prelude.{◌≡◌, List, IfOk, map, length, string_bytes};
-ghost use Rattle.command_words.specs.Judge.{judge_words, IsAnswer, FitsNames};
+ghost use Rattle.command_words.specs.Judge.{AreChosen, judge_words, IsAnswer, FitsNames};
 ghost use Rattle.answer_text.specs.Answers.{AreShort};
 ghost use Rattle.crystal_characters.specs.Items.{items_of};
 ghost use Rattle.crystal_shell.specs.Statistics.{AreFresh, AreReports, Reporter, names_of};
-ghost use Rattle.crystal_shell.specs.Heard.{AreChosen};
 
 use answer_text::Report;
 use canonical_graph::Finished;
@@ -65,7 +64,8 @@ pub(crate) fn reports(
     feed_chosen(stats, places.as_slice(), finished)?;
     let mut reports = Vec::with_capacity(alloc, places.len())?;
     'places: for k in 0..places.len() {
-        let report = report_of(alloc, &stats[places.at(k)])?;
+        let place = *places.at(k);
+        let report = report_of(alloc, &stats[place])?;
         reports.push_reserved(report);
     }
     Ok(reports)

@@ -4,10 +4,38 @@ mod meetings;
 mod statistics;
 mod streams;
 
+use crate::running::run;
+use crystal_streams::{MemorySink, MemorySource};
 use std::alloc::{AllocError, Global};
+use std::test::Fail;
+use std::thread::Threads;
+use worker_gate::Gate;
 
-/// The room of a sink that is never spent.
+/// The room of a sink that is never used up.
 const ROOM: usize = 8_000_000;
+
+/// The status and the output of a run with these words and no statistics.
+fn run_bare<T: Threads + Sync, G: Gate>(
+    rt: &T,
+    alloc: Global,
+    words: &[&str],
+    source: MemorySource,
+    sink: MemorySink,
+    gate: &G,
+) -> Result<(u8, Vec<u8>), Fail> {
+    let words = strings(alloc, words)?;
+    let (mut source, mut sink) = (source, sink);
+    let outcome = run(
+        rt,
+        alloc,
+        words.as_slice(),
+        &mut source,
+        &mut sink,
+        Vec::new(alloc),
+        gate,
+    );
+    Ok((outcome.status, sink.bytes().to_vec(alloc)?))
+}
 
 fn strings(alloc: Global, words: &[&str]) -> Result<Vec<String>, AllocError> {
     let mut all = Vec::new(alloc);

@@ -30,7 +30,7 @@ after_failed_read s = record s { reads = next_count s.reads; faults = next_count
 -- a sink in memory: the bytes taken, how many it takes in all, the numbers of the writes that fail, the most bytes
 -- that one write takes, how many writes were made and how many of them failed
 pub record SinkState : Type 0 where
-  pub held : List ℕ
+  pub taken : List ℕ
   pub room : ℕ
   pub fails : List ℕ
   pub at_most : ℕ
@@ -39,15 +39,15 @@ pub record SinkState : Type 0 where
 
 -- the next write to the sink fails
 abbrev pub WriteFails : SinkState → Type 0
-WriteFails s = Contains s.fails (next_count s.writes) ⊎ (length s.held ≡ s.room)
+WriteFails s = Contains s.fails (next_count s.writes) ⊎ (length s.taken ≡ s.room)
 
 -- how many bytes a write of `offered` bytes takes, where it does not fail
 abbrev pub write_count : SinkState → ℕ → ℕ
-write_count s offered = min (min offered s.at_most) (s.room - length s.held)
+write_count s offered = min (min offered s.at_most) (s.room - length s.taken)
 
--- the sink after a write that took `taken`
+-- the sink after a write that took `piece`
 abbrev pub after_write : SinkState → List ℕ → SinkState
-after_write s taken = record s { held = s.held ++ taken; writes = next_count s.writes }
+after_write s piece = record s { taken = s.taken ++ piece; writes = next_count s.writes }
 
 -- the sink after a write that failed
 abbrev pub after_failed_write : SinkState → SinkState

@@ -85,7 +85,7 @@ impl<T: Write> OutputAdapter<T> {
 }
 
 impl<T: Write> Sink for OutputAdapter<T> {
-    ghost held = { λ _. None };
+    ghost taken = { λ _. None };
 
     ghost faults = { λ s. s };
 

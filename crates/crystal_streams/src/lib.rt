@@ -5,15 +5,13 @@
 //! more in that call: `Source` and `Sink` (`sources`, `sinks`) have a count of faults beside their bytes. `MemorySource`
 //! and `MemorySink` (`memory`) fail at the calls that they are told to, for tests; `InputAdapter` and `OutputAdapter`
 //! (`adapters`) stand before std's readers and writers, and their contracts tell nothing of the bytes. A `Line`
-//! (`lines`) is one line of text while it is made, without memory of its own; `push_line` puts it behind a text. A
-//! `Gate` (`gates`) is what workers pass before their turns.
+//! (`lines`) is one line of text while it is made, without memory of its own; `push_line` puts it behind a text.
 //!
 //! **Stands on** itoa, for numbers of more than one digit.
 #![tactic(auto)]
 
 mod adapters;
 mod faults;
-mod gates;
 mod lines;
 mod memory;
 mod sinks;
@@ -22,7 +20,6 @@ mod wholes;
 
 pub use adapters::{InputAdapter, OutputAdapter};
 pub use faults::{Failed, NoMemory, ReadEnd, WriteFault};
-pub use gates::{Gate, OpenGate};
 pub use lines::{Line, push_line};
 pub use memory::{MemorySink, MemorySource};
 pub use sinks::Sink;

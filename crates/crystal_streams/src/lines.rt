@@ -10,14 +10,14 @@ use std::marker::Model;
 /// A line that is being made: at most 512 bytes, kept without memory of its own.
 #[derive(Debug, Drop)]
 pub struct Line {
-    held: [u8; 512],
+    bytes: [u8; 512],
     len: usize,
 }
 
 impl Model for Line {
     ghost Value = { List ℕ };
 
-    ghost view = { λ s. take s.len s.held };
+    ghost view = { λ s. take s.len s.bytes };
 
     ghost invariant = { λ s. s.len ≤ 512 };
 }
@@ -28,7 +28,7 @@ impl Line {
         ensures { result ≡ [] }
     {
         Line {
-            held: [0; 512],
+            bytes: [0; 512],
             len: 0,
         }
     }
@@ -45,7 +45,7 @@ impl Line {
         ensures value { result.now ≡ self.now }
         ensures bound { length self.now ≤ 512 }
     {
-        &self.held[..self.len]
+        &self.bytes[..self.len]
     }
 
     /// Appends a piece, for which there must be room.
@@ -54,7 +54,7 @@ impl Line {
         ensures { self.new ≡ self.old ++ piece.now }
     {
         let end = self.len + piece.len();
-        self.held[self.len..end].copy_from_slice(piece);
+        self.bytes[self.len..end].copy_from_slice(piece);
         self.len = end;
     }
 

@@ -109,7 +109,7 @@ impl Model for MemorySink {
     ghost Value = { SinkState };
 
     ghost view = { λ s. record {
-      held = s.bytes.items;
+      taken = s.bytes.items;
       room = s.capacity;
       fails = s.failing.items;
       at_most = s.most;
@@ -125,7 +125,7 @@ impl Model for MemorySink {
 impl MemorySink {
     /// A sink for `room` bytes, for which it takes memory here and never later. Its writes take
     /// at most `at_most` bytes each. The writes whose numbers, counted from 1, stand in `fails`
-    /// fail, and all writes once the room is spent.
+    /// fail, and all writes once the room is used up.
     pub fn new(
         alloc: Global,
         room: usize,
@@ -134,7 +134,7 @@ impl MemorySink {
     ) -> Result<MemorySink, NoMemory>
         requires { 1 ≤ at_most }
         ensures { IfOk result (λ sink. sink ≡ record {
-          held = [];
+          taken = [];
           room = room;
           fails = fails.items;
           at_most = at_most;
@@ -155,22 +155,22 @@ impl MemorySink {
 
     /// The bytes that the sink holds.
     pub fn bytes(&self) -> &[u8]
-        ensures value { result.now ≡ self.now.held }
-        ensures bound { length self.now.held ≤ self.now.room }
+        ensures value { result.now ≡ self.now.taken }
+        ensures bound { length self.now.taken ≤ self.now.room }
     {
         &self.bytes
     }
 }
 
 impl Sink for MemorySink {
-    ghost held = { λ s. Some s.held };
+    ghost taken = { λ s. Some s.taken };
 
     ghost faults = { λ s. s.faults };
 
     fn write(&mut self, piece: &[u8]) -> Result<usize, Failed>
         requires { 0 < length piece.now }
         ensures bound { IfOk result (λ count. (1 ≤ count) × (count ≤ length piece.now)) }
-        ensures bytes { WriteAppends (Some self.old.held) (Some self.new.held) result piece.now }
+        ensures bytes { WriteAppends (Some self.old.taken) (Some self.new.taken) result piece.now }
         ensures cause { HasCause self.old.faults self.new.faults result }
         ensures fails { IsErr result ↔ WriteFails self.old }
         ensures count { IfOk result (λ count. count ≡ write_count self.old (length piece.now)) }

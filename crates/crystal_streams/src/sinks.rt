@@ -7,10 +7,10 @@ use super::faults::Failed;
 
 /// Where bytes are written to.
 ///
-/// `held` is the bytes taken so far where the sink tells them, and `faults` a count of failed
+/// `taken` is the bytes taken so far where the sink tells them, and `faults` a count of failed
 /// writes that never falls and stays at 2^64 - 1.
 pub trait Sink {
-    ghost held: { Self → Option (List ℕ) };
+    ghost taken: { Self → Option (List ℕ) };
 
     ghost faults: { Self → ℕ };
 
@@ -19,6 +19,6 @@ pub trait Sink {
     fn write(&mut self, piece: &[u8]) -> Result<usize, Failed>
         requires { 0 < length piece.now }
         ensures bound { IfOk result (λ count. (1 ≤ count) × (count ≤ length piece.now)) }
-        ensures bytes { WriteAppends (held self.old) (held self.new) result piece.now }
+        ensures bytes { WriteAppends (taken self.old) (taken self.new) result piece.now }
         ensures cause { HasCause (faults self.old) (faults self.new) result };
 }

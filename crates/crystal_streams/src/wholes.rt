@@ -55,7 +55,7 @@ fn zeros(alloc: Global, count: usize) -> Result<Vec<u8>, NoMemory>
 /// Writes all the bytes. A `WriteFault` comes only where a write failed, and a front of the bytes
 /// is then out.
 pub fn write_all<W: Sink>(sink: &mut W, bytes: &[u8]) -> Result<(), WriteFault>
-    ensures { Writes (W.held sink.old) (W.held sink.new)
+    ensures { Writes (W.taken sink.old) (W.taken sink.new)
         (W.faults sink.old) (W.faults sink.new) bytes.now result }
 {
     let mut at = 0;

@@ -3,11 +3,11 @@ use Rattle.std.proofs.Common.{◌≡◌, refl, sym, subst, inl, inr, ℕ, zero, 
 use Rattle.std.specs.Prelude.{int_le}
 use Rattle.std.specs.List.{list_all, range_with_len}
 use Rattle.std.proofs.lemmas.Bool.{cases_eq}
+use Rattle.list_facts.proofs.Truth.{first_true, second_true}
 use Rattle.crystal_cartan.specs.Types.{HasIndex}
 use Rattle.crystal_cartan.specs.Weights.{twice_pairing}
 use Rattle.tensor_words.specs.Spaces.{SpaceType}
 use Rattle.tensor_words.specs.TensorRule.{action}
-use Rattle.tensor_words.proofs.KeptWords.{both_left, both_right}
 use Rattle.crystal_subsets.specs.ProductTops.{is_top_beside}
 
 -- a test of each number of a range
@@ -18,8 +18,8 @@ all_of_range p a (suc n) h = rw (h a (omega arith) (omega arith)) (all_of_range 
 each_of_range : (p : ℕ → Bool) (a n : ℕ) → list_all p (range_with_len a n) ≡ true → (k : ℕ) → a ≤ k → k < a + n → p k ≡ true
 each_of_range p a zero h k low high = absurd (omega arith)
 each_of_range p a (suc n) h k low high = elim (cases_eq a k) [
-  | inl is ↦ rw is at (both_left (p a) (list_all p (range_with_len (a + 1) n)) h)
-  | inr other ↦ each_of_range p (a + 1) n (both_right (p a) (list_all p (range_with_len (a + 1) n)) h) k (omega arith) (omega arith)
+  | inl is ↦ rw is at (first_true (p a) (list_all p (range_with_len (a + 1) n)) h)
+  | inr other ↦ each_of_range p (a + 1) n (second_true (p a) (list_all p (range_with_len (a + 1) n)) h) k (omega arith) (omega arith)
 ]
 
 below_by_test : (x y : ℤ) → int_le x y ≡ true → x ≤ℤ y

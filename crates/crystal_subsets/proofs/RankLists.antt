@@ -1,10 +1,10 @@
 -- Numbers of a range that pass a test.
-use Rattle.std.proofs.Common.{◌≡◌, refl, sym, ap, inl, inr, ◌⊎◌, ℕ, zero, suc, ◌+◌, ◌≤◌, ◌<◌, Bool, true, false, cond, nat_eq, IsTrue, List, [], ◌∷◌, ◌++◌, map, length, Contains, ◌↔◌, arith}
+use Rattle.std.proofs.Common.{◌≡◌, refl, sym, inl, inr, ◌⊎◌, ℕ, zero, suc, ◌+◌, ◌≤◌, ◌<◌, Bool, true, false, cond, nat_eq, IsTrue, List, [], ◌∷◌, ◌++◌, length, Contains, ◌↔◌, arith}
 use Rattle.std.specs.List.{filter, range_with_len, list_any}
 use Rattle.std.specs.List.Sorted.{IsStrictlyIncreasing}
 use Rattle.std.proofs.lemmas.Bool.{cases_eq}
 use Rattle.std.proofs.lemmas.Bool.Decides.{nat_tests}
-use Rattle.std.proofs.lemmas.List.{append-nil}
+use Rattle.std.proofs.lemmas.List.{append-nil, map-id}
 use Rattle.std.proofs.lemmas.List.Elements.{Contains-get_or}
 use Rattle.std.proofs.lemmas.List.Folds.{list_any_none}
 use Rattle.std.proofs.lemmas.List.FromFn.{length-range_with_len, get_or-range_with_len, filter_of_map_range_with_len_more}
@@ -55,15 +55,11 @@ range_ascends a n k below =
 pub kept_ascend : (p : ℕ → Bool) (n : ℕ) → IsStrictlyIncreasing (filter p (range_with_len 0 n))
 kept_ascend p n = IsStrictlyIncreasing-filter p (range_with_len 0 n) (range_ascends 0 n)
 
-map_same : (xs : List ℕ) → map (λ x. x) xs ≡ xs
-map_same [] = refl
-map_same (x ∷ xs) = ap (λ ys. x ∷ ys) (map_same xs)
-
 -- one number more
 pub kept_more : (p : ℕ → Bool) (n : ℕ) → filter p (range_with_len 0 (n + 1)) ≡ filter p (range_with_len 0 n) ++ cond (p n) (n ∷ []) []
 kept_more p n =
     let more = filter_of_map_range_with_len_more p (λ x. x) 0 n n (omega arith) in
-    rw (map_same (range_with_len 0 (n + 1)), map_same (range_with_len 0 n)) at more
+    rw (map-id (range_with_len 0 (n + 1)), map-id (range_with_len 0 n)) at more
 
 -- n is not among the numbers below it
 pub not_yet : (p : ℕ → Bool) (n : ℕ) → list_any (nat_eq n) (filter p (range_with_len 0 n)) ≡ false

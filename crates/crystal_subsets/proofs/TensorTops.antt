@@ -14,8 +14,7 @@ use Rattle.tensor_words.proofs.Products.{product_rule}
 use Rattle.tensor_words.proofs.KeptWords.{factors_of_space}
 use Rattle.tensor_words.proofs.SpaceWords.{IsWord-word_of}
 use Rattle.tensor_words.proofs.WordWeights.{seminormal_word}
-use Rattle.canonical_graph.specs.Graphs.{code_at}
-use Rattle.canonical_graph.specs.Texts.{vertex_word}
+use Rattle.canonical_graph.specs.Graphs.{code_at, vertex_word}
 use Rattle.crystal_subsets.specs.ProductTops.{is_top_beside, one_behind, TopsOfProducts, ListedTops}
 use Rattle.crystal_subsets.proofs.RankLists.{kept_below}
 use Rattle.crystal_subsets.proofs.BesideTests.{beside_by_test, test_by_beside}

@@ -4,8 +4,7 @@ use Rattle.std.specs.List.{filter, range_with_len}
 use Rattle.std.proofs.lemmas.List.{map-append, append-nil}
 use Rattle.tensor_words.specs.Spaces.{SpaceType, word_weight}
 use Rattle.crystal_cartan.specs.Weights.{sum_of}
-use Rattle.canonical_graph.specs.Graphs.{FinishedType}
-use Rattle.canonical_graph.specs.Texts.{vertex_word}
+use Rattle.canonical_graph.specs.Graphs.{FinishedType, vertex_word}
 use Rattle.crystal_subsets.specs.ProductTops.{is_top_beside, top_entry}
 use Rattle.crystal_subsets.proofs.RankLists.{kept_more}
 

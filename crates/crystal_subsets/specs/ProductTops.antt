@@ -11,8 +11,7 @@ use Rattle.tensor_words.specs.Spaces.{SpaceType, tensor_space, ordered, HasFacto
 use Rattle.tensor_words.specs.Codes.{IsWord}
 use Rattle.tensor_words.specs.TensorRule.{action}
 use Rattle.tensor_words.specs.Operators.{IsTop}
-use Rattle.canonical_graph.specs.Graphs.{FinishedType, IsFinished}
-use Rattle.canonical_graph.specs.Texts.{vertex_word}
+use Rattle.canonical_graph.specs.Graphs.{FinishedType, IsFinished, vertex_word}
 
 -- whether the word x is a top beside the weight: eps_i of x is at most the pairing of the weight with the simple
 -- coroot, for each index i; both sides are doubled

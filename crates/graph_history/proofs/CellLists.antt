@@ -4,10 +4,10 @@ use Rattle.std.specs.List.{list_any, IsDistinct, AllByRecursion}
 use Rattle.std.specs.Set.{is_member}
 use Rattle.std.proofs.lemmas.Cmp.{nat_eq_equiv}
 use Rattle.std.proofs.lemmas.Grind.{common_steps}
-use Rattle.std.proofs.lemmas.List.Elements.{Contains-append_right}
 use Rattle.std.proofs.lemmas.Map.Keys.{IsDistinct-push, IsDistinct-head, IsDistinct-tail, IsDistinct-cons}
 use Rattle.std.proofs.lemmas.Map.Made.{is_member-filter}
 use Rattle.std.proofs.lemmas.Map.Views.{list_any-from_Contains, Contains-from_any}
+use Rattle.list_facts.proofs.Lists.{in_first, in_rest}
 
 -- membership by a test and by a place
 pub into : (cells : List ℕ) (c : ℕ) → Contains cells c → is_member nat_eq cells c ≡ true
@@ -41,12 +41,6 @@ part_of test xs c h =
     let is = sym (is_member-filter nat_eq_equiv test c one xs) ∙ into (filter test xs) c h in
     let both : (is_member nat_eq xs c ≡ true) × (test c ≡ true) = grind (arith, common_steps) in (out_of xs c both.0, both.1)
 
-pub part_has : (test : ℕ → Bool) (xs : List ℕ) (c : ℕ) → Contains xs c → test c ≡ true → Contains (filter test xs) c
-part_has test xs c h takes =
-    let one : (x : ℕ) → nat_eq c x ≡ true → test c ≡ test x = λ x e. ap test (eqb-true c x e) in
-    let there = into xs c h in
-    out_of (filter test xs) c (is_member-filter nat_eq_equiv test c one xs ∙ grind (arith, common_steps))
-
 lacks_part : (test : ℕ → Bool) (c : ℕ) (xs : List ℕ) → list_any (nat_eq c) xs ≡ false → list_any (nat_eq c) (filter test xs) ≡ false
 lacks_part test c [] h = refl
 lacks_part test c (x ∷ xs) h = grind (arith, common_steps, lacks_part test c xs)
@@ -71,14 +65,8 @@ pub distinct_both : (xs ys : List ℕ) → IsDistinct nat_eq xs → IsDistinct n
 distinct_both [] ys d e apart = e
 distinct_both (x ∷ xs) ys d e apart =
     IsDistinct-cons nat_eq x (xs ++ ys)
-    (lacks_each x (xs ++ ys) (lacks_both x xs ys (each_lacks x xs (IsDistinct-head nat_eq x xs d)) (not_in ys x (λ there. apart x (first x xs) there))))
-    (distinct_both xs ys (IsDistinct-tail nat_eq x xs d) e (λ c here there. apart c (later x xs c here) there))
-  where
-    first : (x : ℕ) (xs : List ℕ) → Contains (x ∷ xs) x
-    first x xs = (0, omega arith, refl)
-
-    later : (x : ℕ) (xs : List ℕ) (c : ℕ) → Contains xs c → Contains (x ∷ xs) c
-    later x xs c here = Contains-append_right (x ∷ []) xs c here
+    (lacks_each x (xs ++ ys) (lacks_both x xs ys (each_lacks x xs (IsDistinct-head nat_eq x xs d)) (not_in ys x (λ there. apart x (in_first x xs) there))))
+    (distinct_both xs ys (IsDistinct-tail nat_eq x xs d) e (λ c here there. apart c (in_rest x xs c here) there))
 
 -- the list without a cell, which is one shorter where the cell stands in it
 pub without_more : (c : ℕ) (xs : List ℕ) → list_any (nat_eq c) xs ≡ false → filter (λ d. not (nat_eq c d)) xs ≡ xs

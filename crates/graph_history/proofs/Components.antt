@@ -20,7 +20,8 @@ use Rattle.graph_history.specs.Laws.{IsReachedIn, VerticesAreReached, ClosedIsRe
 use Rattle.graph_history.proofs.Histories.{one_code, around, legal_prefix, legal_rest}
 use Rattle.graph_history.proofs.VertexLists.{keys, length-keys, key_at, has_key, no_key, distinct_keys, vertex_in}
 use Rattle.graph_history.proofs.Fitting.{vertices_fit}
-use Rattle.graph_history.proofs.SoundStates.{IsSound, sound, reached_more, root_walk}
+use Rattle.tensor_words.proofs.Walks.{walk-nil}
+use Rattle.graph_history.proofs.SoundStates.{IsSound, sound, reached_more}
 
 pub vertices_are_reached : VerticesAreReached
 vertices_are_reached w h x legal (c, there) = (sound w h legal).reached c x there
@@ -55,24 +56,23 @@ closed_is_reached w h x legal closed = (
   λ r. closed_walk w (state_of h) (sound w h legal) closed r.path r.root x r.there r.arrows r.leads,
 )
 
-pub closed_is_components : ClosedIsComponents
-closed_is_components w h codes legal closed roots listed = record {
-  ascending = listed.ascending;
-  sound = λ x among. let r = vertices_are_reached w h x legal (listed.vertices x among) in
-      record { root = r.root; rooted = r.rooted; path = r.path; arrows = r.arrows; leads = r.leads };
-  complete = λ x r. listed.all x (closed_walk w (state_of h) (sound w h legal) closed r.path r.root x (roots r.root r.rooted) r.arrows r.leads);
-}
-
-abbrev code : Vertex → ℕ
+abbrev pub code : Vertex → ℕ
 code v = v.code
 
 module _ (w : WorldType) where
-  reached_from : (s : State) (x : ℕ) → IsReachedIn w s x → IsReached w x
+  pub reached_from : (s : State) (x : ℕ) → IsReachedIn w s x → IsReached w x
   reached_from s x r = record { root = r.root; rooted = r.rooted; path = r.path; arrows = r.arrows; leads = r.leads }
 
-  origin_reached : (s : State) (x : ℕ) (o : Origin) → IsSound w s → IsOrigin w s x o → IsReached w x
-  origin_reached s x Root S rooted = record { root = x; rooted = rooted; path = []; arrows = tt; leads = root_walk w.space x }
+  pub origin_reached : (s : State) (x : ℕ) (o : Origin) → IsSound w s → IsOrigin w s x o → IsReached w x
+  origin_reached s x Root S rooted = record { root = x; rooted = rooted; path = []; arrows = tt; leads = walk-nil w.space x }
   origin_reached s x (By c a) S (y, there, is, leads) = reached_from s x (reached_more w s a x y (S.reached c y there) is leads)
+
+pub closed_is_components : ClosedIsComponents
+closed_is_components w h codes legal closed roots listed = record {
+  ascending = listed.ascending;
+  sound = λ x among. reached_from w (state_of h) x (vertices_are_reached w h x legal (listed.vertices x among));
+  complete = λ x r. listed.all x (closed_walk w (state_of h) (sound w h legal) closed r.path r.root x (roots r.root r.rooted) r.arrows r.leads);
+}
 
 spent_here : (w : WorldType) (s : State) (x : ℕ) → IsSound w s → MaySpend w s x → Outnumber w
 spent_here w s x S may = record {

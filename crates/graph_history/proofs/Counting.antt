@@ -2,10 +2,12 @@
 use Rattle.std.proofs.Common.{◌≡◌, refl, sym, ap, subst, ◌∙◌, ℕ, zero, suc, ◌+◌, ◌≤◌, ◌&&◌, ◌⊎◌, inl, inr, not, cond, Bool, true, false, true≢false, eqb-true, nat_eq, List, [], ◌∷◌, ◌++◌, length, filter, slice_get, Option, Some, None, is_some, Contains, length-append, arith}
 use Rattle.std.specs.List.{list_any}
 use Rattle.std.specs.Cmp.{nat_eq_equiv}
+use Rattle.std.proofs.lemmas.Bool.{and_from}
 use Rattle.std.proofs.lemmas.Grind.{common_steps}
 use Rattle.std.proofs.lemmas.List.Elements.{filter-append}
 use Rattle.std.proofs.lemmas.Map.Made.{length-le_from_is_member}
 use Rattle.std.proofs.lemmas.Map.Views.{list_any-from_Contains, Contains-from_any}
+use Rattle.list_facts.proofs.Truth.{first_true, second_true}
 use Rattle.crystal_cartan.specs.declared.types.Arrow.{Arrow}
 use Rattle.tensor_words.specs.Worlds.{WorldType}
 use Rattle.graph_history.specs.declared.event.Origin.{Origin}
@@ -20,19 +22,6 @@ use Rattle.graph_history.proofs.VertexLists.{keys, distinct_keys, distinct_part,
 
 abbrev cell : Vertex → ℕ
 cell v = v.cell
-
--- tests of Booleans
-both_true : (a b : Bool) → a ≡ true → b ≡ true → (a && b) ≡ true
-both_true true b p q = q
-both_true false b p q = cc
-
-first_true : (a b : Bool) → (a && b) ≡ true → a ≡ true
-first_true true b h = refl
-first_true false b h = cc
-
-second_true : (a b : Bool) → (a && b) ≡ true → b ≡ true
-second_true true b h = h
-second_true false b h = cc
 
 some_from : {X : Type 0} (o : Option X) → is_some o ≡ true → (t : X) × (o ≡ Some t)
 some_from None h = cc
@@ -63,16 +52,16 @@ all_tested s c zero all = refl
 all_tested s c (suc n) all =
     let lower = all (record { down = true; index = suc n }) (omega arith) (omega arith) in
     let upper = all (record { down = false; index = suc n }) (omega arith) (omega arith) in
-    both_true (is_drawn s.drawn c true (suc n)) _ (ap is_some lower.1)
-    (both_true (is_drawn s.drawn c false (suc n)) _ (ap is_some upper.1) (all_tested s c n (λ a low high. all a low (omega arith))))
+    and_from (is_drawn s.drawn c true (suc n)) _ (ap is_some lower.1)
+    (and_from (is_drawn s.drawn c false (suc n)) _ (ap is_some upper.1) (all_tested s c n (λ a low high. all a low (omega arith))))
 
 more_tested : (ds es : List DrawnArrow) (c n : ℕ) → are_drawn ds c n ≡ true → are_drawn (ds ++ es) c n ≡ true
 unfolding are_drawn
 more_tested ds es c zero h = refl
 more_tested ds es c (suc n) h =
     let rest = second_true (is_drawn ds c true (suc n)) _ h in
-    both_true (is_drawn (ds ++ es) c true (suc n)) _ (still true (first_true (is_drawn ds c true (suc n)) _ h))
-    (both_true (is_drawn (ds ++ es) c false (suc n)) _ (still false (first_true (is_drawn ds c false (suc n)) _ rest))
+    and_from (is_drawn (ds ++ es) c true (suc n)) _ (still true (first_true (is_drawn ds c true (suc n)) _ h))
+    (and_from (is_drawn (ds ++ es) c false (suc n)) _ (still false (first_true (is_drawn ds c false (suc n)) _ rest))
     (more_tested ds es c n (second_true (is_drawn ds c false (suc n)) _ rest)))
   where
     still : (down : Bool) → is_drawn ds c down (suc n) ≡ true → is_drawn (ds ++ es) c down (suc n) ≡ true

@@ -128,7 +128,7 @@ drawn_full old new c x y a r is none legal there leads = record {
 }
 
 -- an arrow to a word that was put in, or met
-cell_is : (r : AddedAnswer) (t : ℕ) → (r ≡ New t) ⊎ (r ≡ Old t) → cell_of r ≡ Some t
+pub cell_is : (r : AddedAnswer) (t : ℕ) → (r ≡ New t) ⊎ (r ≡ Old t) → cell_of r ≡ Some t
 cell_is r t (inl e) = ap cell_of e
 cell_is r t (inr e) = ap cell_of e
 

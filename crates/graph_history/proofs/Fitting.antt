@@ -1,14 +1,11 @@
 -- A legal history has no more vertices than cells, and a full one keeps its vertices.
-use Rattle.std.proofs.Common.{◌≡◌, refl, sym, ap, subst, ◌∙◌, ℕ, ◌<◌, ◌≤◌, true, eqb-true, nat_eq, List, [], ◌∷◌, ◌++◌, length, append-nil, append_assoc, length-append, arith}
+use Rattle.std.proofs.Common.{◌≡◌, ap, subst, ◌∙◌, ℕ, ◌<◌, ◌≤◌, true, eqb-true, nat_eq, List, [], ◌∷◌, ◌++◌, length, append-nil, length-append, arith}
 use Rattle.std.specs.List.{list_any}
 use Rattle.std.proofs.lemmas.Map.Steps.{length-le_from_distinct_below}
 use Rattle.std.proofs.lemmas.Map.Views.{Contains-from_any}
-use Rattle.graph_history.specs.declared.event.Act.{Act}
-use Rattle.graph_history.specs.declared.event.Act.TheVariants.{Added, Met, Missed, Spent, Drew, Saw, Blank, Owed, Settled, Tally}
-use Rattle.graph_history.specs.declared.event.Event.{Event}
-use Rattle.graph_history.specs.History.{Vertex, State, empty_state, after, state_from, state_of}
+use Rattle.graph_history.specs.History.{Vertex, State, empty_state, state_of}
 use Rattle.graph_history.specs.Laws.{VerticesFit, FullStays}
-use Rattle.graph_history.proofs.Histories.{state_from-append}
+use Rattle.graph_history.proofs.Histories.{state_from-append, vertices_from}
 use Rattle.graph_history.proofs.SoundStates.{sound}
 use Rattle.graph_history.proofs.VertexLists.{keys, length-keys, key_at, distinct_keys}
 
@@ -28,26 +25,7 @@ vertices_fit w h legal =
         let S = sound w h legal in
         subst (λ (c : ℕ). c < w.cells) found.3 (S.below found.1.cell found.1.code (S.simple.vertex found.0 found.1 found.2))
 
--- the vertices of a longer history
-more_vertices : (s : State) (act : Act) → (vs : List Vertex) × ((after s act).vertices ≡ s.vertices ++ vs)
-more_vertices s (Added c x o) = (record { cell = c; code = x } ∷ [], refl)
-more_vertices s (Met c x) = ([], sym (append-nil s.vertices))
-more_vertices s (Missed x) = ([], sym (append-nil s.vertices))
-more_vertices s (Spent x) = ([], sym (append-nil s.vertices))
-more_vertices s (Drew c a t) = ([], sym (append-nil s.vertices))
-more_vertices s (Saw c a t) = ([], sym (append-nil s.vertices))
-more_vertices s (Blank c a) = ([], sym (append-nil s.vertices))
-more_vertices s Owed = ([], sym (append-nil s.vertices))
-more_vertices s (Settled paid) = ([], sym (append-nil s.vertices))
-more_vertices s (Tally n) = ([], sym (append-nil s.vertices))
-
-vertices_from : (s : State) (es : List Event) → (vs : List Vertex) × ((state_from s es).vertices ≡ s.vertices ++ vs)
-vertices_from s [] = ([], sym (append-nil s.vertices))
-vertices_from s (e ∷ es) =
-    let one = more_vertices s e.act in
-    let rest = vertices_from (after s e.act) es in
-    (one.0 ++ rest.0, rest.1 ∙ ap (λ (vs : List Vertex). vs ++ rest.0) one.1 ∙ append_assoc s.vertices one.0 rest.0)
-
+-- no vertex comes where there are no more
 no_more : (vs ws : List Vertex) → length (vs ++ ws) ≤ length vs → vs ++ ws ≡ vs
 no_more vs [] short = append-nil vs
 no_more vs (v ∷ ws) short = let long = length-append vs (v ∷ ws) in absurd (omega arith)

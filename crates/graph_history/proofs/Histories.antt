@@ -1,5 +1,5 @@
 -- States of histories: what a push leaves and adds, and how legality splits over an append.
-use Rattle.std.proofs.Common.{◌≡◌, refl, ap, ℕ, zero, suc, ◌==◌, ◌&&◌, ◌⊎◌, inl, inr, Bool, true, false, List, [], ◌∷◌, ◌++◌, length, slice_get, Option, Some, None, Contains, arith}
+use Rattle.std.proofs.Common.{◌≡◌, refl, sym, ap, ◌∙◌, ℕ, zero, suc, ◌==◌, ◌&&◌, ◌⊎◌, inl, inr, Bool, true, false, List, [], ◌∷◌, ◌++◌, length, slice_get, Option, Some, None, Contains, append-nil, append_assoc, arith}
 use Rattle.std.proofs.lemmas.Grind.{common_steps}
 use Rattle.crystal_cartan.specs.declared.types.Arrow.{Arrow}
 use Rattle.tensor_words.specs.Worlds.{WorldType}
@@ -151,3 +151,23 @@ around [] e (k, below, is) = absurd (omega arith)
 around (d ∷ h) e (zero, below, is) = ([], h, ap (λ (x : Event). x ∷ h) is)
 around (d ∷ h) e (suc k, below, is) =
     let rest = around h e (k, omega arith, is) in (d ∷ rest.0, rest.1, ap (λ (l : List Event). d ∷ l) rest.2)
+
+-- the vertices of a longer history
+pub more_vertices : (s : State) (act : Act) → (vs : List Vertex) × ((after s act).vertices ≡ s.vertices ++ vs)
+more_vertices s (Added c x o) = (record { cell = c; code = x } ∷ [], refl)
+more_vertices s (Met c x) = ([], sym (append-nil s.vertices))
+more_vertices s (Missed x) = ([], sym (append-nil s.vertices))
+more_vertices s (Spent x) = ([], sym (append-nil s.vertices))
+more_vertices s (Drew c a t) = ([], sym (append-nil s.vertices))
+more_vertices s (Saw c a t) = ([], sym (append-nil s.vertices))
+more_vertices s (Blank c a) = ([], sym (append-nil s.vertices))
+more_vertices s Owed = ([], sym (append-nil s.vertices))
+more_vertices s (Settled paid) = ([], sym (append-nil s.vertices))
+more_vertices s (Tally n) = ([], sym (append-nil s.vertices))
+
+pub vertices_from : (s : State) (es : List Event) → (vs : List Vertex) × ((state_from s es).vertices ≡ s.vertices ++ vs)
+vertices_from s [] = ([], sym (append-nil s.vertices))
+vertices_from s (e ∷ es) =
+    let one = more_vertices s e.act in
+    let rest = vertices_from (after s e.act) es in
+    (one.0 ++ rest.0, rest.1 ∙ ap (λ (vs : List Vertex). vs ++ rest.0) one.1 ∙ append_assoc s.vertices one.0 rest.0)

@@ -3,6 +3,7 @@ use Rattle.std.proofs.Common.{◌≡◌, refl, sym, ap, subst, ◌∙◌, ℕ, �
 use Rattle.std.specs.List.{IsDistinct}
 use Rattle.std.proofs.lemmas.List.Elements.{Contains-push_cases, Contains-append_left, Contains-append_right}
 use Rattle.std.proofs.lemmas.Map.Steps.{length-le_from_distinct_below}
+use Rattle.list_facts.proofs.Lists.{filter_keeps}
 use Rattle.crystal_cartan.specs.declared.types.Arrow.{Arrow}
 use Rattle.tensor_words.specs.Worlds.{WorldType}
 use Rattle.graph_history.specs.declared.event.Origin.{Origin}
@@ -16,7 +17,7 @@ use Rattle.graph_history.specs.Plain.{unpaid_from, unpaid_of, IsOwing}
 use Rattle.graph_history.proofs.Histories.{stays_after, vertex_at-new, vertex_at-push}
 use Rattle.graph_history.proofs.SoundStates.{IsSound}
 use Rattle.graph_history.proofs.Counting.{unfinished_within}
-use Rattle.graph_history.proofs.CellLists.{out_of, part_of, part_has, distinct_part, distinct_push, one_less}
+use Rattle.graph_history.proofs.CellLists.{out_of, part_of, distinct_part, distinct_push, one_less}
 
 -- unpaid cells after more events
 pub unpaid_from-append : (cells : List ℕ) (f g : List Event) → unpaid_from cells (f ++ g) ≡ unpaid_from (unpaid_from cells f) g
@@ -85,7 +86,7 @@ module _ (w : WorldType) where
         by true is = inl (subst (λ (e : ℕ). IsWhole w s e) (eqb-true c d is) whole)
         by false is = elim (O.covered d x there) [
           | inl other ↦ inl other
-          | inr among ↦ inr (part_has (λ e. not (nat_eq c e)) cells d among (ap not is))
+          | inr among ↦ inr (filter_keeps (λ e. not (nat_eq c e)) cells d among (ap not is))
         ]
 
     pub owing_settled : (c : ℕ) → IsOwing w s cells → Contains cells c → IsWhole w s c → IsOwing w (record s { debts = s.debts - 1 }) (without c cells)

@@ -12,12 +12,8 @@ use Rattle.graph_history.specs.declared.event.Act.TheVariants.{Added, Met, Misse
 use Rattle.graph_history.specs.declared.event.Event.{Event}
 use Rattle.graph_history.specs.History.{Vertex, DrawnArrow, State, empty_state, after, state_from, state_of, vertex_at, target_at, HasVertex, HasArrow, IsOrigin, IsTarget, MayAdd, MayDraw, IsLegalAct, LegalFrom, IsLegal}
 use Rattle.graph_history.specs.Laws.{Stays, IsReachedIn, IsSimple}
-use Rattle.signature_rule.proofs.Paths.{path-push, walked}
 use Rattle.graph_history.proofs.Histories.{slice_get-push, vertex_at-push, vertex_at-new, target_at-push, target_at-new, same_edge, own_edge, stays_after}
-
-pub root_walk : (s : SpaceType) (x : ℕ) → walk s [] x ≡ Some x
-unfolding walk
-root_walk s x = refl
+use Rattle.tensor_words.proofs.Walks.{path-push, walk_more, walk-nil}
 
 module _ (w : WorldType) where
   pub reached_stays : (s t : State) (x : ℕ) → Stays s t → IsReachedIn w s x → IsReachedIn w t x
@@ -37,7 +33,7 @@ module _ (w : WorldType) where
     there = r.there;
     path = r.path ++ a ∷ [];
     arrows = path-push w.space r.path a r.arrows is;
-    leads = walked w.space r.path a r.root x y r.leads leads;
+    leads = walk_more w.space r.path a r.root y x r.leads leads;
   }
 
   pub reached_root : (s : State) (c x : ℕ) → Contains w.roots x → HasVertex s c x → IsReachedIn w s x
@@ -47,7 +43,7 @@ module _ (w : WorldType) where
     there = (c, there);
     path = [];
     arrows = tt;
-    leads = root_walk w.space x;
+    leads = walk-nil w.space x;
   }
 
   pub target_stays : (s t : State) (a : Arrow) (y : ℕ) (to : Option ℕ) → Stays s t → IsTarget w s a y to → IsTarget w t a y to
@@ -219,7 +215,7 @@ module _ (w : WorldType) where
       }
 
   -- nothing of it speaks of debts
-  sound_debts : (s : State) (n : ℕ) → IsSound s → IsSound (record s { debts = n })
+  pub sound_debts : (s : State) (n : ℕ) → IsSound s → IsSound (record s { debts = n })
   sound_debts s n S = record {
     simple = record {
       vertex = S.simple.vertex;

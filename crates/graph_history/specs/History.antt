@@ -4,6 +4,7 @@ use Rattle.crystal_cartan.specs.declared.types.Arrow.{Arrow}
 use Rattle.tensor_words.specs.Spaces.{size}
 use Rattle.tensor_words.specs.Operators.{IsArrow, op}
 use Rattle.tensor_words.specs.Worlds.{WorldType}
+use Rattle.shared_seats.specs.Seats.{calls as seats_calls}
 use Rattle.graph_history.specs.declared.event.Origin.{Origin}
 use Rattle.graph_history.specs.declared.event.Origin.TheVariants.{Root, By}
 use Rattle.graph_history.specs.declared.event.Act.{Act}
@@ -194,9 +195,13 @@ LegalFrom w s (e ∷ es) = IsLegalAct w s e.act × LegalFrom w (after s e.act) e
 unfoldable pub IsLegal : WorldType → List Event → Type 0
 IsLegal w h = LegalFrom w empty_state h
 
+-- whose event it is
+abbrev pub caller_of : Event → ℕ
+caller_of e = e.caller
+
 -- the events of one caller, in their order, and the events of all others
 abbrev pub calls : List Event → ℕ → List Event
-calls h n = filter (λ (e : Event). e.caller == n) h
+calls h n = seats_calls caller_of h n
 
 abbrev pub others : ℕ → List Event → List Event
 others n h = filter (λ (e : Event). not (e.caller == n)) h

@@ -5,3 +5,4 @@ pub mod Desks
 pub mod Notes
 pub mod ArrowRows
 pub mod Plain
+pub mod Views

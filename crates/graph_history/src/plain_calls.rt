@@ -24,7 +24,7 @@ impl Desk for PlainDesk {
 
     fn add(&mut self, code: u64) -> Added {
         self.known();
-        self.spend();
+        self.use_up();
         let answer = self.enter(code, Origin::Root);
         self.known();
         answer
@@ -58,7 +58,7 @@ impl Desk for PlainDesk {
     }
 
     fn draw(&mut self, cell: u32, arrow: Arrow) -> Draw {
-        self.spend();
+        self.use_up();
         self.reach(cell, arrow)
     }
 
@@ -68,7 +68,7 @@ impl Desk for PlainDesk {
     }
 
     fn pay(&mut self, cell: u32) {
-        self.settle(cell);
+        self.pay_debt(cell);
     }
 
     fn tally(&mut self) -> u64 {

@@ -144,7 +144,7 @@ impl PlainDesk {
         let _world = &self.world;
     }
 
-    pub(crate) fn spend(&mut self)
+    pub(crate) fn use_up(&mut self)
         requires { 0 < self.old.room }
         ensures { self.new ≡ record self.old { room = self.old.room - 1 } }
     {
@@ -174,7 +174,7 @@ impl PlainDesk {
     }
 
     /// Pays for the vertex of an unpaid cell.
-    pub(crate) fn settle(&mut self, cell: u32)
+    pub(crate) fn pay_debt(&mut self, cell: u32)
         requires unpaid { Contains (unpaid_of self.old.front) cell }
         requires whole { IsWhole self.old.world (state_of self.old.front) cell }
         ensures { Does (standing_of self.old) (standing_of self.new) 0 (Settled (Some cell) ∷ []) }

@@ -14,21 +14,22 @@ use Rattle.graph_history.specs.declared.event.Origin.{Origin}
 use Rattle.graph_history.specs.declared.event.Act.{Act}
 use Rattle.graph_history.specs.declared.event.Act.TheVariants.{Added, Met}
 use Rattle.graph_history.specs.declared.view.Dues.{Dues}
-use Rattle.graph_history.specs.declared.view.View.{View}
-use Rattle.graph_history.specs.History.{State, after, state_from, state_of, vertex_at, HasVertex, HasSome, IsOrigin, IsWhole, LegalFrom, HasSpareDebt}
+use Rattle.graph_history.specs.Views.{View}
+use Rattle.graph_history.specs.History.{State, after, state_from, state_of, vertex_at, HasVertex, HasSome, IsOrigin, IsWhole, LegalFrom, HasSpareDebt, caller_of}
 use Rattle.graph_history.specs.Laws.{Stays}
 use Rattle.graph_history.specs.Desks.{by}
 use Rattle.graph_history.specs.ArrowRows.{edge_place}
 use Rattle.graph_history.proofs.Histories.{stays_after, vertex_at-push, vertex_at-new, vertex_at-other}
 use Rattle.graph_rule.specs.Layout.{IsLaid, code_word, IsPlaced, IsSearched}
-use Rattle.graph_rule.specs.Rule.{IsDues, Fits, IsRunning}
+use Rattle.shared_seats.specs.Seats.{Fits}
+use Rattle.graph_rule.specs.Rule.{whole, IsDues, IsRunning}
 use Rattle.graph_rule.specs.Told.{advanced, Advances, claimed_acts, claimed_dues, with_cell, unpledged, claimed}
 use Rattle.graph_history.proofs.CellLists.{distinct_push}
 use Rattle.graph_rule.proofs.Views.{some_stays, whole_stays}
-use Rattle.graph_rule.proofs.Advance.{Elsewhere, Moves, fits_here, advance, tells}
+use Rattle.graph_rule.proofs.Advance.{Elsewhere, Moves, fits_here, owes_here, open_now, advance, tells}
 use Rattle.graph_rule.proofs.Paths.{searched_stays, placed_stays, new_at_empty, word_none, word_some}
 use Rattle.graph_rule.proofs.Payers.{repay, repay_same, repay_other}
-use Rattle.graph_rule.proofs.CellSteps.{front_stays, open_now, dues_now, still, word_then, origin_stays}
+use Rattle.graph_rule.proofs.CellSteps.{front_stays, dues_now, still, word_then, origin_stays}
 use Rattle.graph_rule.proofs.Spare.{spare}
 
 -- the words after a code was put into an empty cell
@@ -138,7 +139,7 @@ module _ {key : WorldType} {words : List ℕ} {views : List View} (r : IsRunning
     dues = dues_then;
     mine = λ e has.
         elim (Contains-push_cases v.dues.unpaid c e has) [
-          | inl before ↦ repay_other r.payer c id e (unpaid_other e before) ∙ (fits_here r id v at live).pays_here e before
+          | inl before ↦ repay_other r.payer c id e (unpaid_other e before) ∙ (owes_here r id v at live).pays e before
           | inr same ↦ repay_same r.payer c id e (sym same)
         ];
     rest = λ e there. repay_other r.payer c id e (other_cell e there);
@@ -182,7 +183,7 @@ module _ (key : WorldType) (slots id : ℕ) (me : Me Unit View) (live : 0 < me.0
       by_test false e = refl
 
   module _ (s : TableState Unit View) (r : IsRunning key s.words s.views) (at : get_elem? s.views id ≡ some me.0) where
-    abbrev fits : Fits key r.owner r.payer r.history id me.0
+    abbrev fits : Fits whole caller_of key r.seated.owner r.history id me.0
     fits = fits_here r id me.0 at live
 
     abbrev found : ℕ

@@ -10,21 +10,19 @@ use Rattle.graph_history.specs.declared.event.Origin.TheVariants.{Root, By}
 use Rattle.graph_history.specs.declared.event.Act.{Act}
 use Rattle.graph_history.specs.declared.event.Event.{Event}
 use Rattle.graph_history.specs.declared.view.Dues.{Dues}
-use Rattle.graph_history.specs.declared.view.View.{View}
+use Rattle.graph_history.specs.Views.{View}
 use Rattle.graph_history.specs.History.{State, state_of, after, IsOrigin, IsLegal, IsLegalAct, calls}
 use Rattle.graph_history.specs.Laws.{Stays}
 use Rattle.graph_history.specs.Desks.{by, Grows, EndsWith}
 use Rattle.graph_history.proofs.Histories.{legal_rest, state_push}
 use Rattle.graph_history.proofs.SoundStates.{sound}
 use Rattle.graph_rule.specs.Told.{advanced, Advances, Watched, Went}
-use Rattle.graph_rule.proofs.Views.{stays_prefix, calls-append, calls-by, by-append}
+use Rattle.graph_history.proofs.Growing.{calls-append, calls_both, calls_by, by_append}
+use Rattle.graph_rule.proofs.Views.{stays_prefix}
 
 -- no step yet
 pub watched_none : (v : View) → Watched v v
 watched_none v = record { more = []; is = λ i. record v { front = sym (append-nil v.front) i }; quiet = refl; alone = λ all. refl }
-
-calls_both : (f g : List Event) (n : ℕ) → calls f n ≡ [] → calls g n ≡ [] → calls (f ++ g) n ≡ []
-calls_both f g n p q = calls-append f g n ∙ ap (λ (l : List Event). l ++ calls g n) p ∙ q
 
 module _ (u v w : View) (s : Watched u v) where
   moved_front : (l : List Event) → (v.front ++ l) ≡ u.front ++ (s.more ++ l)
@@ -80,7 +78,7 @@ pub went_one : (v w : View) (acts : List Act) (d : Dues) → Advances v w acts d
 went_one v w acts d a = record {
   more = a.between ++ by v.number acts;
   is = a.is ∙ ap (λ (h : List Event). record v { calls = v.calls ++ by v.number acts; front = h; dues = d }) (append_assoc v.front a.between (by v.number acts));
-  own = calls-append a.between (by v.number acts) v.number ∙ ap (λ (l : List Event). l ++ calls (by v.number acts) v.number) a.quiet ∙ calls-by v.number acts;
+  own = calls-append a.between (by v.number acts) v.number ∙ ap (λ (l : List Event). l ++ calls (by v.number acts) v.number) a.quiet ∙ calls_by v.number acts;
   alone = λ all. ap (λ (l : List Event). l ++ by v.number acts) (a.alone all);
   known = a.known;
   complete = a.complete;
@@ -90,9 +88,9 @@ pub went_then : (u v w : View) (xs ys : List Act) (d e : Dues) → Went u v xs d
 went_then u v w xs ys d e p q = record {
   more = p.more ++ q.more;
   is = q.is ∙ ap (λ (x : View). record x { calls = x.calls ++ by x.number ys; front = x.front ++ q.more; dues = e }) p.is ∙ (λ i. record u { calls = calls_are i; front = append_assoc u.front p.more q.more i; dues = e });
-  own = calls-append p.more q.more u.number ∙ ap (λ (l : List Event). l ++ calls q.more u.number) p.own ∙ ap (λ (l : List Event). by u.number xs ++ l) own_after ∙ sym (by-append u.number xs ys);
+  own = calls-append p.more q.more u.number ∙ ap (λ (l : List Event). l ++ calls q.more u.number) p.own ∙ ap (λ (l : List Event). by u.number xs ++ l) own_after ∙ by_append u.number xs ys;
   alone = λ all.
-      ap (λ (l : List Event). l ++ q.more) (p.alone all) ∙ ap (λ (l : List Event). by u.number xs ++ l) (q.alone (stake_is ∙ all) ∙ ap (λ (n : ℕ). by n ys) number_is) ∙ sym (by-append u.number xs ys);
+      ap (λ (l : List Event). l ++ q.more) (p.alone all) ∙ ap (λ (l : List Event). by u.number xs ++ l) (q.alone (stake_is ∙ all) ∙ ap (λ (n : ℕ). by n ys) number_is) ∙ by_append u.number xs ys;
   known = q.known;
   complete = q.complete;
 }
@@ -107,7 +105,7 @@ went_then u v w xs ys d e p q = record {
     own_after = subst (λ (n : ℕ). calls q.more n ≡ by n ys) number_is q.own
 
     calls_are : (u.calls ++ by u.number xs) ++ by u.number ys ≡ u.calls ++ by u.number (xs ++ ys)
-    calls_are = append_assoc u.calls (by u.number xs) (by u.number ys) ∙ ap (λ (l : List Event). u.calls ++ l) (sym (by-append u.number xs ys))
+    calls_are = append_assoc u.calls (by u.number xs) (by u.number ys) ∙ ap (λ (l : List Event). u.calls ++ l) (by_append u.number xs ys)
 
 pub went_watched : (u v w : View) (acts : List Act) (d : Dues) → Watched u v → Advances v w acts d → Went u w acts d
 went_watched u v w acts d s a = went_one u w acts d (then_step u v w s acts d a)

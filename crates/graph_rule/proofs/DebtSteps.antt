@@ -4,20 +4,21 @@ use Rattle.std.proofs.lemmas.List.{set-get_or, get_or-set_same, get_or-set_other
 use mathlib.Core.Option.{some, none}
 use lib.ListN.{get_elem?}
 use Rattle.atomic_table.specs.Table.{State as TableState, Me, Step, step, Allows, keeps}
+use Rattle.list_facts.proofs.Lists.{filter_keeps}
 use Rattle.tensor_words.specs.Worlds.{WorldType, most_cells}
 use Rattle.graph_history.specs.declared.event.Act.{Act}
 use Rattle.graph_history.specs.declared.event.Act.TheVariants.{Owed, Settled, Tally}
 use Rattle.graph_history.specs.declared.view.Dues.{Dues}
-use Rattle.graph_history.specs.declared.view.View.{View}
+use Rattle.graph_history.specs.Views.{View}
 use Rattle.graph_history.specs.History.{State, after, state_of, HasVertex, IsWhole, LegalFrom}
 use Rattle.graph_history.specs.Desks.{by}
 use Rattle.graph_rule.specs.Layout.{IsLaid}
 use Rattle.graph_rule.specs.Rule.{whole, IsDues, IsRunning}
-use Rattle.graph_rule.specs.Told.{advanced, Advances, pledged, unpledged, paid, met, owes, releases, pays, tallied}
-use Rattle.graph_history.proofs.CellLists.{part_of, part_has, distinct_part, one_less}
+use Rattle.graph_rule.specs.Told.{advanced, Advances, pledged, unpledged, paid, owes, releases, pays, tallied}
+use Rattle.graph_history.proofs.CellLists.{part_of, distinct_part, one_less}
 use Rattle.graph_rule.proofs.Views.{whole_stays, state_more}
-use Rattle.graph_rule.proofs.Advance.{Elsewhere, Moves, fits_here, advance, tells}
-use Rattle.graph_rule.proofs.CellSteps.{front_stays, open_now, dues_now, still}
+use Rattle.graph_rule.proofs.Advance.{Elsewhere, Moves, fits_here, owes_here, open_now, advance, tells}
+use Rattle.graph_rule.proofs.CellSteps.{front_stays, dues_now, still}
 use Rattle.graph_rule.proofs.Spare.{spare, debts_few}
 
 -- the words after the number of debts changed
@@ -38,7 +39,7 @@ module _ {key : WorldType} {words : List ℕ} {views : List View} (r : IsRunning
   debts_below = let few = debts_few r in omega (arith, r.counted)
 
   cells_few : key.cells ≤ most_cells
-  cells_few = let f = fits_here r id v at live in subst (λ (w : WorldType). w.cells ≤ most_cells) f.world_is f.known.world.few
+  cells_few = r.world.few
 
   -- an act that changes the number of debts alone
   changes : (act : Act) (d : Dues) (k : ℕ) → after S act ≡ record S { debts = k } → LegalFrom key S (by v.number (act ∷ [])) → IsDues S d
@@ -49,7 +50,7 @@ module _ {key : WorldType} {words : List ℕ} {views : List View} (r : IsRunning
     payer = r.payer;
     legal = legal;
     dues = subst (λ (s : State). IsDues s d) (sym same) (record { owed = dues.owed; among = dues.among; once = dues.once; pledge = dues.pledge });
-    mine = λ c has. (fits_here r id v at live).pays_here c (fewer c has);
+    mine = λ c has. (owes_here r id v at live).pays c (fewer c has);
     rest = λ c there. refl;
     counted = ap (λ (s : State). s.debts + (length v.dues.unpaid + v.dues.pledge)) same ∙ counted;
     laid = subst (λ (s : State). IsLaid key (set words 0 k) s) (sym same) (relaid key words S k r.laid);
@@ -81,7 +82,7 @@ module _ {key : WorldType} {words : List ℕ} {views : List View} (r : IsRunning
       where
         own : Contains v.dues.unpaid e → (b : Bool) → nat_eq c e ≡ b → IsWhole key S e ⊎ (Elsewhere r id v at live e ⊎ Contains (paid c v.dues).unpaid e)
         own in_it true is = inl (subst (λ (k : ℕ). IsWhole key S k) (eqb-true c e is) done)
-        own in_it false is = inr (inr (part_has (λ d. not (nat_eq c d)) v.dues.unpaid e in_it (ap not is)))
+        own in_it false is = inr (inr (filter_keeps (λ d. not (nat_eq c d)) v.dues.unpaid e in_it (ap not is)))
 
         by_now : IsWhole key S e ⊎ (Elsewhere r id v at live e ⊎ Contains v.dues.unpaid e) → IsWhole key S e ⊎ (Elsewhere r id v at live e ⊎ Contains (paid c v.dues).unpaid e)
         by_now (inl all) = inl all
@@ -116,16 +117,6 @@ module _ (key : WorldType) (slots id : ℕ) (me : Me Unit View) (live : 0 < me.0
 
   abbrev any : Step Unit
   any = step 0 0 0 0 none
-
-  pub meets : Allows rule slots id me 0 (λ n. n) (met any me)
-  meets s r homes at fit =
-      let m = still r id me.0 at live [] (set s.words 0 (slice_index s.words 0)) refl (set-get_or s.words 0 0) tt in (
-        advanced me.0 r.history [] me.0.dues,
-        keeps,
-        tt,
-        advance r id me.0 at live [] me.0.dues (set s.words 0 (slice_index s.words 0)) m,
-        (refl, tells r id me.0 at live [] me.0.dues (set s.words 0 (slice_index s.words 0)) m),
-      )
 
   pub tallies : Allows rule slots id me 0 (λ n. n) (tallied any me)
   tallies s r homes at fit =

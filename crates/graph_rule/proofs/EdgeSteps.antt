@@ -1,5 +1,5 @@
 -- The steps on arrows: loads, and the exchange that draws an arrow.
-use Rattle.std.proofs.Common.{◌≡◌, ◌≢◌, refl, sym, ap, subst, ◌∙◌, ℕ, ◌+◌, ◌<◌, ◌≤◌, ◌==◌, ◌&&◌, ◌⊎◌, inl, inr, Bool, true, false, eqb, List, [], ◌∷◌, length, set, slice_index, Option, Some, None, Contains, arith}
+use Rattle.std.proofs.Common.{◌≡◌, ◌≢◌, refl, sym, ap, subst, ◌∙◌, ℕ, ◌+◌, ◌*◌, ◌<◌, ◌≤◌, ◌==◌, ◌&&◌, ◌⊎◌, inl, inr, Bool, true, false, eqb, List, [], ◌∷◌, length, set, slice_index, Option, Some, None, Contains, arith}
 use Rattle.std.proofs.lemmas.Grind.{common_steps}
 use Rattle.std.proofs.lemmas.List.{set-get_or, get_or-set_same, get_or-set_other, length-set}
 use mathlib.Core.Option.{some, none}
@@ -13,21 +13,22 @@ use Rattle.tensor_words.specs.Worlds.{WorldType}
 use Rattle.graph_history.specs.declared.event.Act.{Act}
 use Rattle.graph_history.specs.declared.event.Act.TheVariants.{Drew, Saw}
 use Rattle.graph_history.specs.declared.view.Dues.{Dues}
-use Rattle.graph_history.specs.declared.view.View.{View}
-use Rattle.graph_history.specs.History.{State, after, state_from, state_of, target_at, same_arrow, HasVertex, HasSome, HasArrow, IsUndrawn, IsTarget, IsWhole, LegalFrom}
+use Rattle.graph_history.specs.Views.{View}
+use Rattle.graph_history.specs.History.{State, after, state_from, state_of, target_at, same_arrow, HasVertex, HasSome, HasArrow, IsUndrawn, IsTarget, IsWhole, LegalFrom, caller_of}
 use Rattle.graph_history.specs.Laws.{Stays}
 use Rattle.graph_history.specs.Desks.{by}
 use Rattle.graph_history.specs.ArrowRows.{edge_place, edge_word}
 use Rattle.graph_history.proofs.Histories.{one_code, target_at-new, target_at-other, same_edge, own_edge, stays_after}
 use Rattle.graph_history.proofs.ArrowPlaces.{same_place, edge_fits}
 use Rattle.graph_history.proofs.SoundStates.{IsSound, sound, target_stays}
+use Rattle.shared_seats.specs.Seats.{Fits}
 use Rattle.graph_rule.specs.Layout.{word_count, IsLaid, LeadsTo, arrow_index}
-use Rattle.graph_rule.specs.Rule.{IsKnown, Fits, IsRunning}
+use Rattle.graph_rule.specs.Rule.{whole, IsKnown, IsRunning}
 use Rattle.graph_rule.specs.Values.{SeatValue, GraphValue, Belongs}
 use Rattle.graph_rule.specs.Told.{advanced, Advances, target_in, glanced_acts, drawn_acts, glanced, drawn}
 use Rattle.graph_rule.proofs.Views.{whole_stays, state_more}
-use Rattle.graph_rule.proofs.Advance.{Elsewhere, Moves, fits_here, advance, tells}
-use Rattle.graph_rule.proofs.CellSteps.{front_stays, open_now, dues_now, still}
+use Rattle.graph_rule.proofs.Advance.{Elsewhere, Moves, fits_here, owes_here, open_now, advance, tells}
+use Rattle.graph_rule.proofs.CellSteps.{front_stays, dues_now, still}
 
 -- the word of an arrow, and what is drawn of it
 pub undrawn_word : (o : Option (Option ℕ)) → edge_word o ≡ 0 → o ≡ None
@@ -70,37 +71,44 @@ target_few w s c a is some_cell = by_target (target_at s.drawn c a) refl
     by_target (Some None) e = omega arith
     by_target (Some (Some t)) e = let r = is.simple.targets c a (Some t) e in let low = is.below t r.2.0 r.2.2 in omega arith
 
--- the words after an arrow was drawn
-module _ (w : WorldType) (words : List ℕ) (s : State) (L : IsLaid w words s) (c : ℕ) (a : Arrow) (t : Option ℕ) (below : c < w.cells) (is : IsArrow w.space a) (free : IsUndrawn s c a) where
-  abbrev grown : State
-  grown = after s (Drew c a t)
+-- the words of arrows after one was drawn, where they stand from an index on
+module _ (w : WorldType) (base : ℕ) (words : List ℕ) (s : State) (long : base + w.cells * (2 * w.space.cartan.rank) ≤ length words)
+    (laid : (d : ℕ) (b : Arrow) → d < w.cells → IsArrow w.space b → slice_index words (base + edge_place w.space.cartan.rank d b) ≡ edge_word (target_at s.drawn d b))
+    (c : ℕ) (a : Arrow) (t : Option ℕ) (below : c < w.cells) (is : IsArrow w.space a) (free : IsUndrawn s c a) where
+  abbrev at : ℕ → Arrow → ℕ
+  at e k = base + edge_place w.space.cartan.rank e k
 
-  abbrev new_words : List ℕ
-  new_words = set words (arrow_index w c a) (edge_word (Some t))
+  abbrev drawn_words : List ℕ
+  drawn_words = set words (at c a) (edge_word (Some t))
 
-  other_word : (j : ℕ) → j ≢ arrow_index w c a → slice_index new_words j ≡ slice_index words j
-  other_word j ne = get_or-set_other words (arrow_index w c a) j (edge_word (Some t)) 0 ne
-
-  edge_laid : (d : ℕ) (b : Arrow) → d < w.cells → IsArrow w.space b → (z : Bool) → ((c == d) && same_arrow a b) ≡ z → slice_index new_words (arrow_index w d b) ≡ edge_word (target_at grown.drawn d b)
+  edge_laid : (d : ℕ) (b : Arrow) → d < w.cells → IsArrow w.space b → (z : Bool) → ((c == d) && same_arrow a b) ≡ z → slice_index drawn_words (at d b) ≡ edge_word (target_at (after s (Drew c a t)).drawn d b)
   edge_laid d b low js true e =
       let same = same_edge c d a b e in
-      let room : arrow_index w c a < length words = let fits = edge_fits w w.cells c a below is in omega (arith, L.count) in
-      let there : arrow_index w d b ≡ arrow_index w c a = λ i. arrow_index w (sym same.0 i) (sym same.1 i) in
-      ap (slice_index new_words) there ∙ get_or-set_same words (arrow_index w c a) (edge_word (Some t)) 0 room
+      let room : at c a < length words = let fits = edge_fits w w.cells c a below is in omega arith in
+      let there : at d b ≡ at c a = λ i. at (sym same.0 i) (sym same.1 i) in
+      ap (slice_index drawn_words) there ∙ get_or-set_same words (at c a) (edge_word (Some t)) 0 room
       ∙ ap edge_word (sym (target_at-new s.drawn (record { cell = c; arrow = a; to = t }) d b e (subst (λ (k : ℕ). target_at s.drawn k b ≡ None) same.0 (subst (λ (k : Arrow). target_at s.drawn c k ≡ None) same.1 free))))
   edge_laid d b low js false e =
-      let ne : arrow_index w d b ≢ arrow_index w c a = λ z.
+      let ne : at d b ≢ at c a = λ z.
       let places : edge_place w.space.cartan.rank c a ≡ edge_place w.space.cartan.rank d b = omega arith in
       let same = same_place w c d a b is js places in
       let own = own_edge c d a b same.0 same.1 in grind (arith, common_steps) in
-      other_word (arrow_index w d b) ne ∙ L.edges d b low js ∙ ap edge_word (sym (target_at-other s.drawn (record { cell = c; arrow = a; to = t }) d b e))
+      get_or-set_other words (at c a) (at d b) (edge_word (Some t)) 0 ne ∙ laid d b low js ∙ ap edge_word (sym (target_at-other s.drawn (record { cell = c; arrow = a; to = t }) d b e))
 
-  pub drew_laid : IsLaid w new_words grown
+  pub edges_drawn : (d : ℕ) (b : Arrow) → d < w.cells → IsArrow w.space b → slice_index drawn_words (at d b) ≡ edge_word (target_at (after s (Drew c a t)).drawn d b)
+  edges_drawn d b low js = edge_laid d b low js ((c == d) && same_arrow a b) refl
+
+-- the words after an arrow was drawn
+module _ (w : WorldType) (words : List ℕ) (s : State) (L : IsLaid w words s) (c : ℕ) (a : Arrow) (t : Option ℕ) (below : c < w.cells) (is : IsArrow w.space a) (free : IsUndrawn s c a) where
+  other_word : (j : ℕ) → j ≢ arrow_index w c a → slice_index (set words (arrow_index w c a) (edge_word (Some t))) j ≡ slice_index words j
+  other_word j ne = get_or-set_other words (arrow_index w c a) j (edge_word (Some t)) 0 ne
+
+  pub drew_laid : IsLaid w (set words (arrow_index w c a) (edge_word (Some t))) (after s (Drew c a t))
   drew_laid = record {
     count = length-set words (arrow_index w c a) (edge_word (Some t)) ∙ L.count;
     debts = other_word 0 (λ z. omega arith) ∙ L.debts;
     cells = λ d low. other_word (1 + d) (λ z. omega arith) ∙ L.cells d low;
-    edges = λ d b low js. edge_laid d b low js ((c == d) && same_arrow a b) refl;
+    edges = edges_drawn w (1 + w.cells) words s (omega (arith, L.count)) L.edges c a t below is free;
   }
 
 module _ {key : WorldType} {words : List ℕ} {views : List View} (r : IsRunning key words views) (id : ℕ) (v : View) (at : get_elem? views id ≡ some v) (live : 0 < v.stake) (c : ℕ) (a : Arrow) (is : IsArrow key.space a) where
@@ -132,7 +140,7 @@ module _ {key : WorldType} {words : List ℕ} {views : List View} (r : IsRunning
           payer = r.payer;
           legal = (record { code = leads.0; there = leads.1; arrow = is; undrawn = free; target = leads.2 }, tt);
           dues = record { owed = D.owed; among = D.among; once = D.once; pledge = D.pledge };
-          mine = (fits_here r id v at live).pays_here;
+          mine = (owes_here r id v at live).pays;
           rest = λ e there. refl;
           counted = refl;
           laid = drew_laid key words S r.laid c a t (is_sound.below c leads.0 leads.1) is free;
@@ -165,7 +173,7 @@ module _ (key : WorldType) (slots id : ℕ) (me : Me Unit View) (live : 0 < me.0
   rule s = IsRunning key s.words s.views
 
   module _ (s : TableState Unit View) (r : IsRunning key s.words s.views) (at : get_elem? s.views id ≡ some me.0) where
-    abbrev fits : Fits key r.owner r.payer r.history id me.0
+    abbrev fits : Fits whole caller_of key r.seated.owner r.history id me.0
     fits = fits_here r id me.0 at live
 
     abbrev now : State

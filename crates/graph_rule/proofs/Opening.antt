@@ -1,39 +1,24 @@
 -- The table at the start: no event, and one seat that has everything.
-use Rattle.std.proofs.Common.{◌≡◌, refl, sym, ap, subst, ◌∙◌, ℕ, zero, suc, ◌+◌, ◌<◌, ◌==◌, if◌then◌else◌, nat_eq, Bool, false, List, [], ◌∷◌, length, get_or, replicate, slice_index, Contains, arith}
-use Rattle.std.specs.List.{IsDistinct}
-use Rattle.std.proofs.lemmas.Grind.{common_steps}
+use Rattle.std.proofs.Common.{◌≡◌, refl, ap, ◌∙◌, ℕ, ◌+◌, ◌<◌, nat_eq, List, [], ◌∷◌, length, get_or, replicate, slice_index, arith}
 use Rattle.std.proofs.lemmas.List.{get_or-replicate, length-replicate}
-use mathlib.Core.Option.{some, some-injective, some-ne-none}
-use lib.ListN.{get_elem?}
+use Rattle.list_facts.proofs.Lists.{nothing_in, none_twice}
 use Rattle.tensor_words.specs.Worlds.{WorldType, IsWorld}
-use Rattle.graph_history.specs.declared.view.View.{View}
-use Rattle.graph_history.specs.History.{empty_state}
+use Rattle.graph_history.specs.History.{empty_state, state_of, caller_of}
+use Rattle.graph_history.specs.Notes.{no_dues}
 use Rattle.graph_history.specs.ArrowRows.{edge_place}
 use Rattle.graph_history.proofs.ArrowPlaces.{edge_fits}
 use Rattle.graph_history.proofs.Histories.{legal_empty}
+use Rattle.shared_seats.proofs.Opening.{first_sound, each, opens as seats_open}
 use Rattle.graph_rule.specs.Layout.{word_count, IsLaid}
-use Rattle.graph_rule.specs.Rule.{IsKnown, IsComplete, Role, calling, spare, Fits, IsRunning}
+use Rattle.graph_rule.specs.Rule.{whole, IsDues, IsKnown, IsComplete, Owes, IsRunning}
 use Rattle.graph_rule.specs.Parting.{first_view}
 use Rattle.graph_rule.proofs.Sums.{due_live}
 
-nothing_in : {A : Type 0} (x : A) → Contains [] x → ⊥
-nothing_in x h = let k = h.1 in omega arith
-
-none_twice : IsDistinct nat_eq []
-unfolding IsDistinct
-none_twice = tt
+first_dues : (w : WorldType) → IsDues (state_of (first_view w).front) (first_view w).dues
+first_dues w = record { owed = λ c has. absurd (nothing_in c has); among = λ c has. has; once = none_twice nat_eq; pledge = omega arith }
 
 pub first_known : (w : WorldType) → IsWorld w → IsKnown (first_view w)
-first_known w is = record {
-  live = omega arith;
-  staked = omega arith;
-  numbered = omega arith;
-  world = is;
-  legal = legal_empty w;
-  agrees = record { own = record { mine = refl; kept = λ m has. absurd (nothing_in m has) }; none = λ n unused. refl };
-  dues = record { owed = λ c has. absurd (nothing_in c has); among = λ c has. has; once = none_twice; pledge = omega arith };
-  olds = λ old has. absurd (nothing_in old has);
-}
+first_known w is = record { sound = first_sound whole caller_of w no_dues (omega arith); world = is; legal = legal_empty w; dues = first_dues w }
 
 pub first_complete : (w : WorldType) → IsComplete (first_view w)
 first_complete w all = record { vertices = λ c x there. cc; debts = refl }
@@ -50,46 +35,16 @@ module _ (w : WorldType) (is : IsWorld w) (words : List ℕ) (n : ℕ) (count : 
     edges = λ c a below arrow. let fits = edge_fits w w.cells c a below arrow in zero_at (1 + w.cells + edge_place w.space.cartan.rank c a) (omega arith);
   }
 
-  owner : ℕ → ℕ × Role
-  owner k = (0, (if k == 0 then calling else spare))
-
-  owner_first : owner 0 ≡ (0, calling)
-  unfolding owner
-  owner_first = refl
-
-  owner_other : (k : ℕ) → 1 < suc k → owner k ≡ (0, spare)
-  unfolding owner
-  owner_other k above = let test : (k == 0) ≡ false = grind (arith, common_steps) in ap (λ (b : Bool). (0, (if b then calling else spare))) test
-
-  fits_first : Fits w owner (λ c. 0) [] 0 (first_view w)
-  fits_first =
-      let k = first_known w is in
-      record {
-        known = k;
-        world_is = refl;
-        front = ([], refl);
-        agrees = k.agrees;
-        calls_here = owner_first;
-        keeps_here = λ m has. absurd (nothing_in m has);
-        spare_here = λ m unused. owner_other m (let low = unused.0 in omega arith);
-        pays_here = λ c has. refl;
-      }
-
-  fits_each : (id : ℕ) (v : View) → get_elem? (first_view w ∷ []) id ≡ some v → 0 < v.stake → Fits w owner (λ c. 0) [] id v
-  fits_each zero v at live = subst (λ (u : View). Fits w owner (λ c. 0) [] 0 u) (some-injective (first_view w) v at) fits_first
-  fits_each (suc id) v at live = absurd (some-ne-none v (sym at))
-
   pub opens : IsRunning w words (first_view w ∷ [])
   opens = record {
     history = [];
-    owner = owner;
+    seated = seats_open whole caller_of w no_dues (omega arith);
     payer = λ c. 0;
-    staked = refl;
-    longest = (0, first_view w, refl, omega arith, refl);
+    world = is;
     legal = legal_empty w;
     laid = laid_first;
     placed = λ c x there. cc;
-    fits = fits_each;
+    owing = each whole caller_of w no_dues (omega arith) (λ id v. Owes (λ c. 0) id v) (record { dues = first_dues w; pays = λ c has. refl });
     counted = let d = due_live (first_view w) (omega arith) in omega arith;
     covered = λ c x there. cc;
   }

@@ -1,5 +1,6 @@
 -- The search for a code along its path, in one state.
-use Rattle.std.proofs.Common.{◌≡◌, ◌≢◌, refl, sym, ap, subst, ◌∙◌, ℕ, zero, suc, ◌+◌, ◌-◌, ◌<◌, ◌≤◌, ◌⊎◌, inl, inr, true, nat_eq, eqb-true, List, [], ◌∷◌, ◌++◌, length, Option, Some, None, Contains, arith}
+use Rattle.std.proofs.Common.{◌≡◌, ◌≢◌, refl, sym, ap, subst, ◌∙◌, ℕ, zero, suc, ◌+◌, ◌-◌, ◌%◌, ◌*◌, ◌/◌, ◌^◌, ◌<◌, ◌≤◌, ◌⊎◌, inl, inr, true, nat_eq, eqb-true, add-zero, List, [], ◌∷◌, ◌++◌, length, Option, Some, None, Contains, arith}
+use Rattle.std.proofs.Math.Nat.{mod-add-mod}
 use Rattle.std.specs.List.{list_any, IsDistinct}
 use Rattle.std.proofs.lemmas.Cmp.{nat_eq_equiv}
 use Rattle.std.proofs.lemmas.Grind.{common_steps}
@@ -28,8 +29,17 @@ pub word_other : (o : Option ℕ) (x : ℕ) → code_word o ≢ 0 → code_word 
 word_other None x p q = absurd (p refl)
 word_other (Some y) x p q = (y, refl, λ e. q (ap (λ (z : ℕ). z + 1) e))
 
-less_or : (i j : ℕ) → (i < j) ⊎ ((i ≡ j) ⊎ (j < i))
+-- of two numbers one is less, or they are one
+pub less_or : (i j : ℕ) → (i < j) ⊎ ((i ≡ j) ⊎ (j < i))
 less_or i j = grind arith
+
+-- a path begins at its home
+pub home_first : (cells x : ℕ) → 0 < cells → home cells x ≡ (home cells x + 0) % cells
+unfolding home
+home_first cells x some_cell = sym (twice_in (((x * 11400714819323198485) % 2 ^ 64) / 2 ^ 32) cells)
+  where
+    twice_in : (a n : ℕ) → (a % n + 0) % n ≡ a % n
+    twice_in a n = mod-add-mod a n 0 ∙ ap (λ (m : ℕ). m % n) (add-zero a)
 
 module _ (w : WorldType) where
   pub cell_below : (x k : ℕ) → 0 < w.cells → cell_on w x k < w.cells
@@ -46,6 +56,46 @@ module _ (w : WorldType) where
       by (inl less) = let same = one_turn (start + i) (start + j) w.cells (omega arith) (omega arith) e in omega arith
       by (inr (inl same)) = same
       by (inr (inr less)) = let same = one_turn (start + j) (start + i) w.cells (omega arith) (omega arith) (sym e) in omega arith
+
+  -- the last cell of a path stands at its last place
+  pub last_place : (x k c : ℕ) → k < w.cells → c ≡ cell_on w x k → is_last w x c ≡ true → k + 1 ≡ w.cells
+  last_place x k c short at last =
+      let end : c ≡ cell_on w x (w.cells - 1) = eqb-true c (cell_on w x (w.cells - 1)) last in
+      let same = one_place x k (w.cells - 1) short (omega arith) (sym at ∙ end) in omega arith
+
+  module _ (x : ℕ) where
+    -- so many cells of a path
+    abbrev path : ℕ → List ℕ
+    path zero = []
+    path (suc k) = path k ++ cell_on w x k ∷ []
+
+    path_long : (k : ℕ) → length (path k) ≡ k
+    path_long zero = refl
+    path_long (suc k) = grind (arith, common_steps, path_long k)
+
+    on_path : (k e : ℕ) → Contains (path k) e → (j : ℕ) × (j < k) × (e ≡ cell_on w x j)
+    on_path zero e (j, below, is) = absurd (omega arith)
+    on_path (suc k) e has =
+        elim (Contains-push_cases (path k) (cell_on w x k) e has) [
+          | inl before ↦ let r = on_path k e before in (r.0, omega (arith, r.1), r.2)
+          | inr here ↦ (k, omega arith, sym here)
+        ]
+
+    path_apart : (k : ℕ) → k ≤ w.cells → IsDistinct nat_eq (path k)
+    unfolding IsDistinct
+    path_apart zero short = tt
+    path_apart (suc k) short =
+        distinct_push (path k) (cell_on w x k) (path_apart k (omega arith))
+        (λ has. let r = on_path k (cell_on w x k) has in let same = one_place x k r.0 (omega arith) (omega (arith, r.1)) r.2 in omega (arith, r.1))
+
+    -- a list that has every cell of a path is as long as there are cells
+    pub path_filled : (l : List ℕ) → ((k : ℕ) → k < w.cells → Contains l (cell_on w x k)) → w.cells ≤ length l
+    path_filled l has_each =
+        let some : (e : ℕ) → list_any (nat_eq e) (path w.cells) ≡ true → list_any (nat_eq e) l ≡ true =
+        λ e has. let r = on_path w.cells e (Contains-from_any eqb-true e (path w.cells) has) in
+        list_any-from_Contains nat_eq_equiv e l (subst (Contains l) (sym r.2) (has_each r.0 r.1)) in
+        let few = length-le_from_is_member nat_eq_equiv (path w.cells) l (path_apart w.cells (omega arith)) some in
+        omega (arith, path_long w.cells)
 
   abbrev pub searched_stays : (s t : State) (c x : ℕ) → Stays s t → IsSearched w s c x → IsSearched w t c x
   searched_stays s t c x stays q = record {
@@ -87,12 +137,6 @@ module _ (w : WorldType) where
             let some : vertex_at s.vertices c ≡ Some b.0 = ap (vertex_at s.vertices) q.at ∙ b.1 in cc
 
     -- so does another code at the last cell
-    last_steps : is_last w x c ≡ true → q.steps + 1 ≡ w.cells
-    last_steps last =
-        let end : c ≡ cell_on w x (w.cells - 1) = eqb-true c (cell_on w x (w.cells - 1)) last in
-        let short = q.short in
-        let same = one_place x q.steps (w.cells - 1) short (omega arith) (sym q.at ∙ end) in omega arith
-
     pub new_at_last : (y : ℕ) → HasVertex s c y → y ≢ x → is_last w x c ≡ true → IsNew s x
     new_at_last y here other last d there = by (less_or p.steps q.steps)
       where
@@ -104,39 +148,16 @@ module _ (w : WorldType) where
         by (inr (inl same)) =
             let cell : d ≡ c = p.at ∙ ap (cell_on w x) same ∙ sym q.at in
             other (one_code s c y x here (subst (λ (e : ℕ). HasVertex s e x) cell there))
-        by (inr (inr less)) = let end = last_steps last in let short = p.short in omega arith
+        by (inr (inr less)) = let end = last_place x q.steps c q.short q.at last in let short = p.short in omega arith
 
     -- there every cell is taken
-    abbrev path : ℕ → List ℕ
-    path zero = []
-    path (suc k) = path k ++ cell_on w x k ∷ []
-
-    path_long : (k : ℕ) → length (path k) ≡ k
-    path_long zero = refl
-    path_long (suc k) = grind (arith, common_steps, path_long k)
-
-    on_path : (k e : ℕ) → Contains (path k) e → (j : ℕ) × (j < k) × (e ≡ cell_on w x j)
-    on_path zero e (j, below, is) = absurd (omega arith)
-    on_path (suc k) e has =
-        elim (Contains-push_cases (path k) (cell_on w x k) e has) [
-          | inl before ↦ let r = on_path k e before in (r.0, omega (arith, r.1), r.2)
-          | inr here ↦ (k, omega arith, sym here)
-        ]
-
-    path_apart : (k : ℕ) → k ≤ w.cells → IsDistinct nat_eq (path k)
-    unfolding IsDistinct
-    path_apart zero short = tt
-    path_apart (suc k) short =
-        distinct_push (path k) (cell_on w x k) (path_apart k (omega arith))
-        (λ has. let r = on_path k (cell_on w x k) has in let same = one_place x k r.0 (omega arith) (omega (arith, r.1)) r.2 in omega (arith, r.1))
-
     abbrev cell : Vertex → ℕ
     cell u = u.cell
 
-    taken : (e : ℕ) → HasSome s e → list_any (nat_eq e) (keys cell s.vertices) ≡ true
+    taken : (e : ℕ) → HasSome s e → Contains (keys cell s.vertices) e
     taken e some =
         let place = vertex_in s.vertices e some.0 some.1 in
-        list_any-from_Contains nat_eq_equiv e (keys cell s.vertices) (has_key cell s.vertices place.0 (record { cell = e; code = some.0 }) place.1)
+        has_key cell s.vertices place.0 (record { cell = e; code = some.0 }) place.1
 
     each_taken : (k : ℕ) → HasSome s c → k < q.steps + 1 → HasSome s (cell_on w x k)
     each_taken k here less =
@@ -150,9 +171,6 @@ module _ (w : WorldType) where
 
     pub full_at_last : HasSome s c → is_last w x c ≡ true → w.cells ≤ length s.vertices
     full_at_last here last =
-        let end = last_steps last in
-        let some : (e : ℕ) → list_any (nat_eq e) (path w.cells) ≡ true → list_any (nat_eq e) (keys cell s.vertices) ≡ true =
-        λ e has. let r = on_path w.cells e (Contains-from_any eqb-true e (path w.cells) has) in
-        taken e (subst (λ (d : ℕ). HasSome s d) (sym r.2) (each_taken r.0 here (omega (arith, r.1)))) in
-        let few = length-le_from_is_member nat_eq_equiv (path w.cells) (keys cell s.vertices) (path_apart w.cells (omega arith)) some in
-        omega (arith, path_long w.cells, length-keys cell s.vertices)
+        let end = last_place x q.steps c q.short q.at last in
+        let few = path_filled x (keys cell s.vertices) (λ k below. taken (cell_on w x k) (each_taken k here (omega arith))) in
+        omega (arith, length-keys cell s.vertices)

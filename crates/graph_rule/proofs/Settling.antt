@@ -3,7 +3,7 @@ use Rattle.std.proofs.Common.{◌≡◌, subst, ◌⊎◌, inl, inr, ℕ, List, 
 use Rattle.std.proofs.lemmas.List.Elements.{All-contains}
 use Rattle.tensor_words.specs.Worlds.{WorldType}
 use Rattle.graph_history.specs.declared.event.Event.{Event}
-use Rattle.graph_history.specs.declared.view.View.{View}
+use Rattle.graph_history.specs.Views.{View}
 use Rattle.graph_history.specs.History.{state_of, IsWhole, IsClosed}
 use Rattle.graph_rule.specs.Rule.{whole, IsComplete}
 

@@ -1,33 +1,33 @@
 -- Debts of all live views: a seat's debt that no open vertex needs is spare, and the debts are few.
-use Rattle.std.proofs.Common.{◌≡◌, ◌∙◌, ℕ, ◌+◌, ◌<◌, ◌≤◌, ◌⊎◌, inl, inr, nat_eq, List, length, set, Contains, arith}
+use Rattle.std.proofs.Common.{◌≡◌, ℕ, ◌+◌, ◌<◌, ◌≤◌, ◌⊎◌, inl, inr, nat_eq, List, length, set, Contains, arith}
 use Rattle.std.specs.List.{IsDistinct}
 use mathlib.Core.Option.{some}
 use lib.ListN.{get_elem?}
-use Rattle.atomic_table.proofs.Lists.{set_else}
 use Rattle.tensor_words.specs.Worlds.{WorldType}
 use Rattle.graph_history.specs.declared.view.Dues.{Dues}
-use Rattle.graph_history.specs.declared.view.View.{View}
+use Rattle.graph_history.specs.Views.{View}
 use Rattle.graph_history.specs.History.{state_of, HasVertex, IsWhole, HasSpareDebt}
 use Rattle.graph_history.proofs.SoundStates.{sound}
 use Rattle.graph_rule.specs.Rule.{whole, debts_of, due, IsUnpaid, IsRunning}
 use Rattle.graph_rule.proofs.Views.{some_prefix}
 use Rattle.graph_rule.proofs.Sums.{due_live, debts-set, unfinished_debts, debts_within}
-use Rattle.graph_rule.proofs.Advance.{at_here, Elsewhere}
+use Rattle.graph_rule.proofs.Advance.{Elsewhere}
+use Rattle.shared_seats.proofs.Steps.{live_then}
 
 module _ {key : WorldType} {words : List ℕ} {views : List View} (r : IsRunning key words views) where
   -- no more debts than cells and stakes
   pub debts_few : debts_of views ≤ key.cells + whole
   debts_few =
-      let most = debts_within key.cells r.payer views each cell in omega (arith, r.staked)
+      let most = debts_within key.cells r.payer views each cell in omega (arith, r.seated.staked)
     where
       each : (id : ℕ) (v : View) → get_elem? views id ≡ some v → 0 < v.stake → (v.dues.pledge ≤ 1) × IsDistinct nat_eq v.dues.unpaid
-      each id v at live = let d = (r.fits id v at live).known.dues in (d.pledge, d.once)
+      each id v at live = let d = (r.owing id v at live).dues in (d.pledge, d.once)
 
       cell : (id : ℕ) (v : View) (c : ℕ) → get_elem? views id ≡ some v → 0 < v.stake → Contains v.dues.unpaid c → (r.payer c ≡ id) × (c < key.cells)
       cell id v c at live has =
-          let f = r.fits id v at live in
-          let there = some_prefix v.front r.history c f.front (f.known.dues.owed c (f.known.dues.among c has)) in
-          (f.pays_here c has, (sound key r.history r.legal).below c there.0 there.1)
+          let o = r.owing id v at live in
+          let there = some_prefix v.front r.history c (r.seated.fits id v at live).front (o.dues.owed c (o.dues.among c has)) in
+          (o.pays c has, (sound key r.history r.legal).below c there.0 there.1)
 
   -- a debt that no open vertex needs
   pub spare : (id : ℕ) (v : View) (at : get_elem? views id ≡ some v) (live : 0 < v.stake) (d : Dues) → length d.unpaid + d.pledge + 1 ≡ length v.dues.unpaid + v.dues.pledge
@@ -41,13 +41,9 @@ module _ {key : WorldType} {words : List ℕ} {views : List View} (r : IsRunning
       without_it : View
       without_it = record v { dues = d }
 
-      here_or_there : (c : ℕ) → Elsewhere r id v at live c ⊎ Contains d.unpaid c → IsUnpaid (set views id without_it) c
-      here_or_there c (inl (j, u, ne, there, alive, has)) = (j, u, (set_else views id j without_it ne ∙ there), alive, has)
-      here_or_there c (inr has) = (id, without_it, at_here views id v without_it at, live, has)
-
       covered : (c x : ℕ) → HasVertex (state_of r.history) c x → IsWhole key (state_of r.history) c ⊎ IsUnpaid (set views id without_it) c
       covered c x there =
           elim (open_ c x there) [
             | inl done ↦ inl done
-            | inr owed ↦ inr (here_or_there c owed)
+            | inr owed ↦ inr (live_then views id v at (λ u. Contains u.dues.unpaid c) without_it live owed)
           ]

@@ -1,45 +1,28 @@
 -- A seat is split: the rule holds of the two views.
-use Rattle.std.proofs.Common.{◌≡◌, ◌≢◌, refl, sym, ap, subst, ◌∙◌, ℕ, zero, suc, ◌+◌, ◌<◌, ◌≤◌, ◌&&◌, ◌⊎◌, inl, inr, ⊎_elim, Bool, true, false, not, nat_eq, if◌then◌else◌, List, [], ◌∷◌, ◌++◌, length, set, Contains, arith}
-use Rattle.std.specs.Prelude.{nat_le, nat_lt}
+use Rattle.std.proofs.Common.{◌≡◌, ◌≢◌, refl, sym, ap, ◌∙◌, ℕ, ◌+◌, ◌<◌, ◌≤◌, ◌&&◌, ◌⊎◌, inl, inr, ⊎_elim, Bool, true, false, not, nat_eq, if◌then◌else◌, List, [], ◌∷◌, ◌++◌, length, set, Contains, arith}
 use Rattle.std.specs.Set.{is_member}
-use Rattle.std.proofs.lemmas.Bool.Decides.{eqb_tells}
 use Rattle.std.proofs.lemmas.Grind.{common_steps}
 use Rattle.std.proofs.lemmas.List.Filters.{length-filter_both}
-use mathlib.Core.Option.{some, some-injective, some-ne-none}
+use mathlib.Core.Option.{some}
 use lib.ListN.{get_elem?}
 use Rattle.atomic_table.specs.Table.{Splits}
-use Rattle.atomic_table.proofs.Lists.{at_set, set_here, set_else, at_longer, at_last}
+use Rattle.list_facts.proofs.Lists.{filter_keeps}
 use Rattle.tensor_words.specs.Worlds.{WorldType}
-use Rattle.graph_history.specs.declared.view.View.{View}
 use Rattle.graph_history.specs.declared.view.Dues.{Dues}
-use Rattle.graph_history.specs.History.{State, state_of}
+use Rattle.graph_history.specs.Views.{View}
+use Rattle.graph_history.specs.History.{State, state_of, caller_of}
 use Rattle.graph_history.specs.Notes.{no_dues}
-use Rattle.graph_rule.specs.Rule.{whole, stakes, debts_of, IsUnpaid, Role, calling, keeping, spare, IsDues, IsKnown, IsComplete, Fits, IsRunning}
+use Rattle.graph_history.proofs.CellLists.{keep_all, keep_none, part_of, distinct_part}
+use Rattle.shared_seats.proofs.Splitting.{sound_left, sound_right, each, still, cuts}
+use Rattle.graph_rule.specs.Rule.{whole, debts_of, IsUnpaid, IsDues, IsKnown, IsComplete, Owes, IsRunning}
 use Rattle.graph_rule.specs.Parting.{cut_left, cut_right, left_dues, right_dues, hand_left, hand_right}
-use Rattle.graph_history.proofs.CellLists.{keep_all, keep_none, part_of, part_has, distinct_part}
-use Rattle.graph_rule.proofs.Sums.{stakes-set, stakes-push, due_live, debts-set, debts-push}
-
--- nothing stands in the empty list
-pub nowhere : {A : Type 0} (a : A) → Contains [] a → ⊥
-nowhere a h = let k = h.1 in omega arith
-
--- a list with one more element
-at_end : {A : Type 0} (l : List A) (a b : A) (j : ℕ) → get_elem? (l ++ a ∷ []) j ≡ some b → (get_elem? l j ≡ some b) ⊎ ((j ≡ length l) × (a ≡ b))
-at_end [] a b zero e = inr (refl, some-injective a b e)
-at_end [] a b (suc j) e = absurd (some-ne-none b (sym e))
-at_end (x ∷ xs) a b zero e = inl e
-at_end (x ∷ xs) a b (suc j) e = ⊎_elim (λ h. inl h) (λ h. inr (omega (arith, h.0), h.1)) (at_end xs a b j e)
-
-pub within : {A : Type 0} (l : List A) (a : A) (j : ℕ) → get_elem? l j ≡ some a → j < length l
-within [] a j e = absurd (some-ne-none a (sym e))
-within (x ∷ xs) a zero e = omega arith
-within (x ∷ xs) a (suc j) e = let rest = within xs a j e in omega arith
+use Rattle.graph_rule.proofs.Sums.{due_live, debts-set, debts-push}
 
 -- the dues of the two halves
 pub left_known : (s : State) (cells : List ℕ) (d : Dues) → IsDues s d → IsDues s (left_dues cells d)
 left_known s cells d D = record {
   owed = λ c h. D.owed c (part_of (λ x. not (is_member nat_eq cells x)) d.owed c h).0;
-  among = λ c h. let both = part_of (λ x. not (is_member nat_eq cells x)) d.unpaid c h in part_has (λ x. not (is_member nat_eq cells x)) d.owed c (D.among c both.0) both.1;
+  among = λ c h. let both = part_of (λ x. not (is_member nat_eq cells x)) d.unpaid c h in filter_keeps (λ x. not (is_member nat_eq cells x)) d.owed c (D.among c both.0) both.1;
   once = distinct_part (λ x. not (is_member nat_eq cells x)) d.unpaid D.once;
   pledge = D.pledge;
 }
@@ -47,7 +30,7 @@ left_known s cells d D = record {
 pub right_known : (s : State) (cells : List ℕ) (d : Dues) → IsDues s d → IsDues s (right_dues cells d)
 right_known s cells d D = record {
   owed = λ c h. D.owed c (part_of (is_member nat_eq cells) d.owed c h).0;
-  among = λ c h. let both = part_of (is_member nat_eq cells) d.unpaid c h in part_has (is_member nat_eq cells) d.owed c (D.among c both.0) both.1;
+  among = λ c h. let both = part_of (is_member nat_eq cells) d.unpaid c h in filter_keeps (is_member nat_eq cells) d.owed c (D.among c both.0) both.1;
   once = distinct_part (is_member nat_eq cells) d.unpaid D.once;
   pledge = omega arith;
 }
@@ -66,74 +49,28 @@ none_right count stake v = λ i. record (cut_right count stake v) { dues = recor
 -- the two views by themselves
 pub left_view : (count stake : ℕ) (cells : List ℕ) (v : View) → IsKnown v → count ≤ v.left → stake < v.stake → IsKnown (hand_left count stake cells v)
 left_view count stake cells v K numbers less = record {
-  live = omega arith;
-  staked = let most = K.staked in omega arith;
-  numbered = let most = K.numbered in omega arith;
+  sound = sound_left whole caller_of (left_dues cells v.dues) count stake v K.sound numbers less;
   world = K.world;
   legal = K.legal;
-  agrees = record { own = record { mine = K.agrees.own.mine; kept = K.agrees.own.kept }; none = λ n u. K.agrees.none n (let low = u.0 in omega arith, let high = u.1 in omega arith) };
   dues = left_known (state_of v.front) cells v.dues K.dues;
-  olds = K.olds;
 }
 
 pub right_view : (count stake : ℕ) (cells : List ℕ) (v : View) → IsKnown v → 1 ≤ count → count ≤ v.left → 1 ≤ stake → stake < v.stake → IsKnown (hand_right count stake cells v)
 right_view count stake cells v K some_numbers numbers some_stake less = record {
-  live = omega arith;
-  staked = let most = K.staked in omega arith;
-  numbered = let most = K.numbered in omega arith;
+  sound = sound_right whole caller_of (right_dues cells v.dues) count stake v K.sound some_numbers numbers some_stake less;
   world = K.world;
   legal = K.legal;
-  agrees = record {
-    own = record { mine = K.agrees.none v.next (omega arith, omega arith); kept = λ m h. absurd (nowhere m h) };
-    none = λ n u. K.agrees.none n (let low = u.0 in omega arith, let high = u.1 in omega arith);
-  };
   dues = right_known (state_of v.front) cells v.dues K.dues;
-  olds = λ f h. absurd (nowhere f h);
 }
 
 -- neither of them has the whole stake
 pub left_complete : (count stake : ℕ) (cells : List ℕ) (v : View) → IsKnown v → 1 ≤ stake → stake < v.stake → IsComplete (hand_left count stake cells v)
-left_complete count stake cells v K some_stake less all = let most = K.staked in absurd (omega arith)
+left_complete count stake cells v K some_stake less all = let most = K.sound.staked in absurd (omega arith)
 
 pub right_complete : (count stake : ℕ) (cells : List ℕ) (v : View) → IsKnown v → stake < v.stake → IsComplete (hand_right count stake cells v)
-right_complete count stake cells v K less all = let most = K.staked in absurd (omega arith)
+right_complete count stake cells v K less all = let most = K.sound.staked in absurd (omega arith)
 
--- who has a number once the new seat has so many from the first on
-abbrev in_range : ℕ → ℕ → ℕ → Bool
-in_range first count n = nat_le first n && nat_lt n (first + count)
-
-abbrev owner_cut : (ℕ → ℕ × Role) → ℕ → ℕ → ℕ → ℕ → ℕ × Role
-owner_cut owner first count new n = if in_range first count n then (new, if nat_eq n first then calling else spare) else owner n
-
-cut_first : (owner : ℕ → ℕ × Role) (first count new : ℕ) → 1 ≤ count → owner_cut owner first count new first ≡ (new, calling)
-cut_first owner first count new some_numbers = grind (arith, common_steps)
-
-cut_others : (owner : ℕ → ℕ × Role) (first count new n : ℕ) → first < n → n < first + count → owner_cut owner first count new n ≡ (new, spare)
-cut_others owner first count new n low high = grind (arith, common_steps)
-
-cut_else : (owner : ℕ → ℕ × Role) (first count new n : ℕ) → in_range first count n ≡ false → owner_cut owner first count new n ≡ owner n
-cut_else owner first count new n out = ap (λ (b : Bool). if b then (new, if nat_eq n first then calling else spare) else owner n) out
-
-in_range_means : (first count n : ℕ) → in_range first count n ≡ true → (first ≤ n) × (n < first + count)
-in_range_means first count n h = (grind (arith, common_steps), grind (arith, common_steps))
-
--- an owner of an spare number is none of these
-abbrev pub Apart : ℕ × Role → ℕ × Role → Type 0
-Apart p q = p ≡ q → ⊥
-
-not_calling : spare ≡ calling → ⊥
-not_calling e = cc
-
-not_keeping : spare ≡ keeping → ⊥
-not_keeping e = cc
-
-other_role : (id : ℕ) (r : Role) → (spare ≡ r → ⊥) → Apart (id, spare) (id, r)
-other_role id r other e = other (ap (λ (p : ℕ × Role). p.1) e)
-
-other_seat : (id j : ℕ) (r : Role) → j ≢ id → Apart (id, spare) (j, r)
-other_seat id j r other e = other (sym (ap (λ (p : ℕ × Role). p.0) e))
-
--- who pays_here a cell once the new seat has these cells of the seat id
+-- who pays a cell once the new seat has these cells of the seat id
 abbrev handed : (ℕ → ℕ) → List ℕ → ℕ → ℕ → ℕ → ℕ
 handed payer cells id new c = if is_member nat_eq cells c && nat_eq (payer c) id then new else payer c
 
@@ -148,9 +85,6 @@ handed_else payer cells id new c p = grind (arith, common_steps)
 
 module _ (key : WorldType) (words : List ℕ) (views : List View) (R : IsRunning key words views) (id : ℕ) (v : View) (at : get_elem? views id ≡ some v) (live : 0 < v.stake)
     (count stake : ℕ) (cells : List ℕ) (some_numbers : 1 ≤ count) (numbers : count ≤ v.left) (some_stake : 1 ≤ stake) (less : stake < v.stake) where
-  abbrev here : Fits key R.owner R.payer R.history id v
-  here = R.fits id v at live
-
   abbrev left : View
   left = hand_left count stake cells v
 
@@ -163,110 +97,32 @@ module _ (key : WorldType) (words : List ℕ) (views : List View) (R : IsRunning
   abbrev new : ℕ
   new = length (set views id left)
 
-  abbrev owner : ℕ → ℕ × Role
-  owner = owner_cut R.owner v.next count new
-
   abbrev payer : ℕ → ℕ
   payer = handed R.payer cells id new
 
-  -- the places of the views
-  left_at : get_elem? cut_views id ≡ some left
-  left_at = at_longer (set views id left) (right ∷ []) id left (set_here views id left (within views v id at))
+  here : Owes R.payer id v
+  here = R.owing id v at live
 
-  right_at : get_elem? cut_views new ≡ some right
-  right_at = at_last (set views id left) right new refl
-
-  else_at : (j : ℕ) (u : View) → get_elem? views j ≡ some u → j ≢ id → get_elem? cut_views j ≡ some u
-  else_at j u h other = at_longer (set views id left) (right ∷ []) j u (set_else views id j left other ∙ h)
-
-  same_view : (u : View) → get_elem? views id ≡ some u → u ≡ v
-  same_view u h = some-injective u v (sym h ∙ at)
-
-  -- a number that is not among the spare ones keeps its owner
-  untouched : (n : ℕ) (p : ℕ × Role) → R.owner n ≡ p → Apart (id, spare) p → owner n ≡ p
-  untouched n p is other = by (in_range v.next count n) refl
-    where
-      by : (b : Bool) → in_range v.next count n ≡ b → owner n ≡ p
-      by true range = let ends = in_range_means v.next count n range in absurd (other (sym (here.spare_here n (ends.0, let high = ends.1 in omega arith)) ∙ is))
-      by false range = cut_else R.owner v.next count new n range ∙ is
-
-  left_fits : Fits key owner payer R.history id left
-  left_fits = record {
-    known = left_view count stake cells v here.known numbers less;
-    world_is = here.world_is;
-    front = here.front;
-    agrees = record {
-      own = record { mine = here.agrees.own.mine; kept = here.agrees.own.kept };
-      none = λ n u. here.agrees.none n (let low = u.0 in omega arith, let high = u.1 in omega arith);
-    };
-    calls_here = untouched v.number (id, calling) here.calls_here (other_role id calling not_calling);
-    keeps_here = λ m h. untouched m.number (id, keeping) (here.keeps_here m h) (other_role id keeping not_keeping);
-    spare_here = λ n u.
-        cut_else R.owner v.next count new n (out n u.0) ∙ here.spare_here n (let low = u.0 in omega arith, let high = u.1 in omega arith);
-    pays_here = λ c h.
+  left_owes : Owes payer id left
+  left_owes = record {
+    dues = left_known (state_of v.front) cells v.dues here.dues;
+    pays = λ c h.
         let both = part_of (λ x. not (is_member nat_eq cells x)) v.dues.unpaid c h in
-        handed_left R.payer cells id new c both.1 ∙ here.pays_here c both.0;
+        handed_left R.payer cells id new c both.1 ∙ here.pays c both.0;
   }
-    where
-      out : (n : ℕ) → v.next + count ≤ n → in_range v.next count n ≡ false
-      out n low = grind (arith, common_steps)
 
-  right_fits : Fits key owner payer R.history new right
-  right_fits = record {
-    known = right_view count stake cells v here.known some_numbers numbers some_stake less;
-    world_is = here.world_is;
-    front = here.front;
-    agrees = record {
-      own = record { mine = here.agrees.none v.next (omega arith, omega arith); kept = λ m h. absurd (nowhere m h) };
-      none = λ n u. here.agrees.none n (let low = u.0 in omega arith, let high = u.1 in omega arith);
-    };
-    calls_here = cut_first R.owner v.next count new some_numbers;
-    keeps_here = λ m h. absurd (nowhere m h);
-    spare_here = λ n u. cut_others R.owner v.next count new n (let low = u.0 in omega arith) (let high = u.1 in omega arith);
-    pays_here = λ c h.
+  right_owes : Owes payer new right
+  right_owes = record {
+    dues = right_known (state_of v.front) cells v.dues here.dues;
+    pays = λ c h.
         let both = part_of (is_member nat_eq cells) v.dues.unpaid c h in
-        handed_here R.payer cells id new c both.1 (here.pays_here c both.0);
+        handed_here R.payer cells id new c both.1 (here.pays c both.0);
   }
 
-  else_fits : (j : ℕ) (u : View) → get_elem? views j ≡ some u → j ≢ id → 0 < u.stake → Fits key owner payer R.history j u
-  else_fits j u h other alive =
-      let there = R.fits j u h alive in
-      record {
-        known = there.known;
-        world_is = there.world_is;
-        front = there.front;
-        agrees = there.agrees;
-        calls_here = untouched u.number (j, calling) there.calls_here (other_seat id j calling other);
-        keeps_here = λ m got. untouched m.number (j, keeping) (there.keeps_here m got) (other_seat id j keeping other);
-        spare_here = λ n free. untouched n (j, spare) (there.spare_here n free) (other_seat id j spare other);
-        pays_here = λ c got. handed_else R.payer cells id new c (λ e. other (sym (there.pays_here c got) ∙ e)) ∙ there.pays_here c got;
-      }
-
-  part_fits : (j : ℕ) (u : View) → get_elem? cut_views j ≡ some u → 0 < u.stake → Fits key owner payer R.history j u
-  part_fits j u h alive =
-      elim (at_end (set views id left) right u j h) [
-        | inl before ↦
-            elim (at_set views id j left u before) [
-              | inl own ↦ subst (λ (k : ℕ). Fits key owner payer R.history k u) (sym own.0) (subst (λ (x : View). Fits key owner payer R.history id x) own.1 left_fits)
-              | inr other ↦ else_fits j u other.1 other.0 alive
-            ]
-        | inr last ↦ subst (λ (k : ℕ). Fits key owner payer R.history k u) (sym last.0) (subst (λ (x : View). Fits key owner payer R.history new x) last.1 right_fits)
-      ]
-
-  parts_staked : stakes cut_views ≡ whole
-  parts_staked =
-      let a = stakes-push (set views id left) right in let b = stakes-set views id v left at in let c = R.staked in omega arith
-
-  parts_longest : (j : ℕ) × (u : View) × (get_elem? cut_views j ≡ some u) × (0 < u.stake) × (u.front ≡ R.history)
-  parts_longest = by R.longest
-    where
-      by : (j : ℕ) × (u : View) × (get_elem? views j ≡ some u) × (0 < u.stake) × (u.front ≡ R.history)
-          → (j : ℕ) × (u : View) × (get_elem? cut_views j ≡ some u) × (0 < u.stake) × (u.front ≡ R.history)
-      by (j, u, h, alive, is) =
-          elim (eqb_tells j id) [
-            | inl own ↦ (id, left, left_at, omega arith, ap (λ (x : View). x.front) (sym (same_view u (subst (λ (k : ℕ). get_elem? views k ≡ some u) own.1 h))) ∙ is)
-            | inr other ↦ (j, u, else_at j u h other.1, alive, is)
-          ]
+  others_owe : (j : ℕ) (u : View) → get_elem? views j ≡ some u → j ≢ id → 0 < u.stake → Owes payer j u
+  others_owe j u there other alive =
+      let o = R.owing j u there alive in
+      record { dues = o.dues; pays = λ c got. handed_else R.payer cells id new c (λ e. other (sym (o.pays c got) ∙ e)) ∙ o.pays c got }
 
   parts_counted : debts_of cut_views ≡ debts_of views
   parts_counted =
@@ -275,30 +131,25 @@ module _ (key : WorldType) (words : List ℕ) (views : List View) (R : IsRunning
       let f = parts_count cells v.dues in omega arith
 
   parts_unpaid : (c : ℕ) → IsUnpaid views c → IsUnpaid cut_views c
-  parts_unpaid c (j, u, h, alive, there) =
-      elim (eqb_tells j id) [
-        | inl own ↦
-            let same = same_view u (subst (λ (k : ℕ). get_elem? views k ≡ some u) own.1 h) in
-            let mine : Contains v.dues.unpaid c = subst (λ (x : View). Contains x.dues.unpaid c) same there in
-            by mine (is_member nat_eq cells c) refl
-        | inr other ↦ (j, u, else_at j u h other.1, alive, there)
-      ]
+  parts_unpaid c owed =
+      still whole caller_of key views R.history R.seated id v at (left_dues cells v.dues) (right_dues cells v.dues) count stake some_numbers numbers some_stake less
+      (λ u. Contains u.dues.unpaid c) (by_member (is_member nat_eq cells c) refl) owed
     where
-      by : Contains v.dues.unpaid c → (b : Bool) → is_member nat_eq cells c ≡ b → IsUnpaid cut_views c
-      by mine true is = (new, right, right_at, omega arith, part_has (is_member nat_eq cells) v.dues.unpaid c mine is)
-      by mine false is = (id, left, left_at, omega arith, part_has (λ x. not (is_member nat_eq cells x)) v.dues.unpaid c mine (ap not is))
+      by_member : (b : Bool) → is_member nat_eq cells c ≡ b → Contains v.dues.unpaid c → Contains left.dues.unpaid c ⊎ Contains right.dues.unpaid c
+      by_member true is mine = inr (filter_keeps (is_member nat_eq cells) v.dues.unpaid c mine is)
+      by_member false is mine = inl (filter_keeps (λ x. not (is_member nat_eq cells x)) v.dues.unpaid c mine (ap not is))
 
   pub splits : IsRunning key words cut_views
   splits = record {
     history = R.history;
-    owner = owner;
+    seated = cuts whole caller_of key views R.history R.seated id v at (left_dues cells v.dues) (right_dues cells v.dues) count stake some_numbers numbers some_stake less;
     payer = payer;
-    staked = parts_staked;
-    longest = parts_longest;
+    world = R.world;
     legal = R.legal;
     laid = R.laid;
     placed = R.placed;
-    fits = part_fits;
+    owing = each whole caller_of key views R.history R.seated id v at (left_dues cells v.dues) (right_dues cells v.dues) count stake some_numbers numbers some_stake less
+        (λ j u. Owes payer j u) left_owes right_owes others_owe;
     counted = R.counted ∙ sym parts_counted;
     covered = λ c x h. ⊎_elim (λ all. inl all) (λ some_one. inr (parts_unpaid c some_one)) (R.covered c x h);
   }

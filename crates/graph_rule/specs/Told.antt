@@ -7,17 +7,18 @@ use Rattle.graph_history.specs.declared.event.Origin.{Origin}
 use Rattle.graph_history.specs.declared.event.Act.{Act}
 use Rattle.graph_history.specs.declared.event.Act.TheVariants.{Added, Met, Missed, Spent, Drew, Saw, Blank, Owed, Settled, Tally}
 use Rattle.graph_history.specs.declared.event.Event.{Event}
-use Rattle.graph_history.specs.declared.view.View.{View}
+use Rattle.graph_history.specs.Views.{View}
 use Rattle.graph_history.specs.declared.view.Dues.{Dues}
 use Rattle.graph_history.specs.History.{state_of, vertex_at, target_at, calls}
 use Rattle.graph_history.specs.ArrowRows.{edge_word}
 use Rattle.graph_history.specs.Desks.{by, without}
+use Rattle.shared_seats.specs.Seats.{went}
 use Rattle.graph_rule.specs.Layout.{code_word, is_last}
 use Rattle.graph_rule.specs.Rule.{whole, IsKnown, IsComplete}
 
 -- the view after own acts at the end of the history h
 abbrev pub advanced : View → List Event → List Act → Dues → View
-advanced v h acts d = record v { calls = v.calls ++ by v.number acts; front = h ++ by v.number acts; dues = d }
+advanced v h acts d = went v h (by v.number acts) d
 
 -- one step: the front took in what others did, then these own acts were made; with the whole stake nobody else is there
 -- to do anything
@@ -49,16 +50,18 @@ pub record Went (v w : View) (acts : List Act) (d : Dues) : Type 0 where
 abbrev pub cell_word : View → ℕ → ℕ
 cell_word v c = code_word (vertex_at (state_of v.front).vertices c)
 
--- the act of a load of the cell c in search of the code x, by the word n that was found; the search ends at an empty
--- cell, and at the last cell of the path
+-- the acts of a load in search, by the word n that was found: it is 0, it is the word that is looked for, or it is another
+-- one and the cell is the last of the path
+abbrev pub probed : ℕ → ℕ → Bool → List Act → List Act → List Act → List Act
+probed n sought last empty same other = if n == 0 then empty else (if n == sought then same else (if last then other else []))
+
+-- the act of a load of the cell c in search of the code x; the search ends at an empty cell, and at the last cell of the path
 abbrev pub sought_acts : WorldType → ℕ → ℕ → ℕ → List Act
-sought_acts w c x n =
-    if n == 0 then Missed x ∷ [] else (if n == x + 1 then Met c x ∷ [] else (if is_last w x c then Missed x ∷ [] else []))
+sought_acts w c x n = probed n (x + 1) (is_last w x c) (Missed x ∷ []) (Met c x ∷ []) (Missed x ∷ [])
 
 -- the same where a cell is looked for that the code may be put into
-abbrev pub roomed_acts : WorldType → ℕ → ℕ → ℕ → List Act
-roomed_acts w c x n =
-    if n == 0 then [] else (if n == x + 1 then Met c x ∷ [] else (if is_last w x c then Spent x ∷ [] else []))
+abbrev pub sought_empty_acts : WorldType → ℕ → ℕ → ℕ → List Act
+sought_empty_acts w c x n = probed n (x + 1) (is_last w x c) [] (Met c x ∷ []) (Spent x ∷ [])
 
 -- the act of an exchange of the cell c from 0 to the code x
 abbrev pub claimed_acts : ℕ → ℕ → Origin → ℕ → List Act
@@ -113,9 +116,9 @@ abbrev pub sought : ℕ → ℕ → Step Unit → Me Unit View → ℕ → Me Un
 sought c x step old n new =
     (new.1 ≡ old.1) × Advances old.0 new.0 (sought_acts old.0.world c x n) old.0.dues × (n ≡ cell_word new.0 c)
 
-abbrev pub roomed : ℕ → ℕ → Step Unit → Me Unit View → ℕ → Me Unit View → Type 0
-roomed c x step old n new =
-    (new.1 ≡ old.1) × Advances old.0 new.0 (roomed_acts old.0.world c x n) old.0.dues × (n ≡ cell_word new.0 c)
+abbrev pub sought_empty : ℕ → ℕ → Step Unit → Me Unit View → ℕ → Me Unit View → Type 0
+sought_empty c x step old n new =
+    (new.1 ≡ old.1) × Advances old.0 new.0 (sought_empty_acts old.0.world c x n) old.0.dues × (n ≡ cell_word new.0 c)
 
 abbrev pub claimed : ℕ → ℕ → Origin → Step Unit → Me Unit View → ℕ → Me Unit View → Type 0
 claimed c x o step old n new =
@@ -125,8 +128,8 @@ abbrev pub confirmed : ℕ → ℕ → Step Unit → Me Unit View → ℕ → Me
 confirmed c x step old n new =
     (new.1 ≡ old.1) × Advances old.0 new.0 (confirmed_acts c x (n == x + 1)) old.0.dues × (n ≡ cell_word new.0 c)
 
-abbrev pub met : Step Unit → Me Unit View → ℕ → Me Unit View → Type 0
-met step old n new = (new.1 ≡ old.1) × Advances old.0 new.0 [] old.0.dues
+abbrev pub meets : Step Unit → Me Unit View → ℕ → Me Unit View → Type 0
+meets step old n new = (new.1 ≡ old.1) × Advances old.0 new.0 [] old.0.dues
 
 abbrev pub owes : Step Unit → Me Unit View → ℕ → Me Unit View → Type 0
 owes step old n new = (new.1 ≡ old.1) × Advances old.0 new.0 (Owed ∷ []) (pledged old.0.dues)

@@ -3,7 +3,7 @@ use Rattle.std.specs.Prelude.{◌≡◌, List}
 use Rattle.atomic_table.specs.Seated.{TableId}
 use Rattle.tensor_words.specs.Worlds.{WorldType}
 use Rattle.graph_history.specs.declared.event.Event.{Event}
-use Rattle.graph_history.specs.declared.view.View.{View}
+use Rattle.graph_history.specs.Views.{View}
 
 -- a graph: which table it is, and the world that it grows in
 pub record GraphValue : Type 0 where

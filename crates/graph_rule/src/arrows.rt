@@ -26,7 +26,7 @@ pub fn load_edge(graph: &Graph, seat: &mut Seat, cell: u32, arrow: Arrow) -> u64
     ensures word { result ≡ edge_word (target_in seat.new.view cell arrow) }
     ensures target { result < graph.now.world.cells + 2 }
 {
-    let _stake = seat.stake();
+    seat.reveal();
     load_edge_as::<Brand>(graph, seat, cell, arrow)
 }
 
@@ -39,7 +39,7 @@ fn load_edge_as<J: AskedArrow>(graph: &Graph, seat: &mut Seat, cell: u32, arrow:
     ensures view { Advances seat.old.view seat.new.view (glanced_acts cell arrow (target_in seat.new.view cell arrow)) seat.old.view.dues }
     ensures word { result ≡ edge_word (target_in seat.new.view cell arrow) }
 {
-    let _stake = seat.stake();
+    seat.reveal();
     let index = word_index(graph, cell, arrow);
     graph.board.shared.load::<Glance<J>>(&mut seat.token, index)
 }
@@ -72,7 +72,7 @@ fn claim_edge_as<J: AskedArrow>(
     ensures view { Advances seat.old.view seat.new.view (drawn_acts cell arrow to (result == 0)) seat.old.view.dues }
     ensures word { result ≢ 0 → result ≡ edge_word (Some to) }
 {
-    let _stake = seat.stake();
+    seat.reveal();
     let index = word_index(graph, cell, arrow);
     let word = target_word(to);
     graph

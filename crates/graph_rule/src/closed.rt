@@ -51,7 +51,7 @@ pub fn settle(graph: &Graph, seat: &Seat) -> Closed
     ensures front { result.front ≡ seat.now.view.front }
     ensures closed { IsClosed result.world (state_of result.front) }
 {
-    let _stake = seat.stake();
+    seat.reveal();
     Closed {
         world: Snapshot::of(graph.world()),
         front: seat.front(),

@@ -6,7 +6,8 @@
 //! in its order, and the word that the step found is the one that this history names. Word 0 counts the debts, so a
 //! `tally` of 0 shows that nothing is unfinished.
 //!
-//! It stands on `atomic_table`, whose rule holds between any two steps, and on graph_history, which says what is legal.
+//! It stands on `atomic_table`, whose rule holds between any two steps, on shared_seats, which says what seats know
+//! together, and on graph_history, which says what is legal.
 //! Read specs/Rule.antt first (the rule), then specs/Told.antt (what each step tells), then `steps`, `arrows` and
 //! `payments`.
 #![tactic(auto)]

@@ -5,7 +5,7 @@ ghost use Rattle.std.specs.Prelude.{ℕ, true, List, [], Option, None};
 ghost use Rattle.crystal_cartan.specs.declared.types.Arrow.{Arrow as ArrowType};
 ghost use Rattle.graph_history.specs.declared.event.Origin.{Origin as OriginType};
 ghost use Rattle.graph_history.specs.declared.event.Origin.TheVariants.{Root};
-ghost use Rattle.graph_rule.specs.Told.{looked, confirmed, sought, roomed, claimed, met, owes, releases, pays, tallied, glanced, drawn};
+ghost use Rattle.graph_rule.specs.Told.{looked, confirmed, sought, sought_empty, claimed, meets, owes, releases, pays, tallied, glanced, drawn};
 ghost use Rattle.graph_rule.specs.Parting.{hand_left, hand_right, joined, nobody};
 
 use atomic_table::{Join, Play, Split};
@@ -62,7 +62,7 @@ pub(crate) struct SeekRoom<J> {
 }
 
 impl<J: Asked> Play<(), View> for SeekRoom<J> {
-    ghost then = { roomed J.cell J.code };
+    ghost then = { sought_empty J.cell J.code };
 }
 
 /// An exchange of a cell from empty to a code.
@@ -113,7 +113,7 @@ impl<J: AskedArrow> Play<(), View> for DrawArrow<J> {
 pub(crate) struct Meet;
 
 impl Play<(), View> for Meet {
-    ghost then = { met };
+    ghost then = { meets };
 }
 
 /// One more debt.

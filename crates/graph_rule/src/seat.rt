@@ -55,6 +55,15 @@ impl Seat {
         self.stake as u32
     }
 
+    /// Gives a caller's proof what holds of every seat: it knows a legal history, and with the whole stake all of it. When a
+    /// program runs this does nothing. A proof has the invariant of a value only from a call on it, so this is that call.
+    pub fn reveal(&self)
+        ensures known { IsKnown self.now.view }
+        ensures complete { IsComplete self.now.view }
+    {
+        let _stake = self.stake;
+    }
+
     /// The history as far as it has seen it.
     pub fn front(&self) -> Front
         ensures front { result ≡ self.now.view.front }

@@ -4,7 +4,7 @@ ghost use Rattle.std.specs.Prelude.{◌≡◌, ◌≢◌, ◌<◌, ◌+◌, ◌=
 ghost use Rattle.tensor_words.specs.Spaces.{size};
 ghost use Rattle.graph_history.specs.History.{state_of, IsOrigin};
 ghost use Rattle.graph_rule.specs.Layout.{IsSearched};
-ghost use Rattle.graph_rule.specs.Told.{Advances, cell_word, confirmed_acts, sought_acts, roomed_acts, claimed_acts, claimed_dues};
+ghost use Rattle.graph_rule.specs.Told.{Advances, cell_word, confirmed_acts, sought_acts, sought_empty_acts, claimed_acts, claimed_dues};
 ghost use Rattle.graph_rule.specs.Values.{Belongs};
 
 use crate::graph::Graph;
@@ -106,7 +106,7 @@ pub fn seek_room(graph: &Graph, seat: &mut Seat, cell: u32, code: u64, origin: O
     requires searched { IsSearched seat.old.view.world (state_of seat.old.view.front) cell code }
     requires origin { IsOrigin seat.old.view.world (state_of seat.old.view.front) code origin }
     ensures table { seat.new.table ≡ seat.old.table }
-    ensures view { Advances seat.old.view seat.new.view (roomed_acts seat.old.view.world cell code result) seat.old.view.dues }
+    ensures view { Advances seat.old.view seat.new.view (sought_empty_acts seat.old.view.world cell code result) seat.old.view.dues }
     ensures word { result ≡ cell_word seat.new.view cell }
 {
     seek_room_as::<Brand>(graph, seat, cell, code, origin)
@@ -126,7 +126,7 @@ fn seek_room_as<J: Asked>(
     requires searched { IsSearched seat.old.view.world (state_of seat.old.view.front) cell code }
     requires origin { IsOrigin seat.old.view.world (state_of seat.old.view.front) code _origin }
     ensures table { seat.new.table ≡ seat.old.table }
-    ensures view { Advances seat.old.view seat.new.view (roomed_acts seat.old.view.world cell code result) seat.old.view.dues }
+    ensures view { Advances seat.old.view seat.new.view (sought_empty_acts seat.old.view.world cell code result) seat.old.view.dues }
     ensures word { result ≡ cell_word seat.new.view cell }
 {
     graph

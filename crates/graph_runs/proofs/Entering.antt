@@ -8,16 +8,16 @@ use Rattle.graph_history.specs.declared.event.Act.TheVariants.{Spent, Owed, Sett
 use Rattle.graph_history.specs.declared.event.Event.{Event}
 use Rattle.graph_history.specs.declared.answer.Added.{Added}
 use Rattle.graph_history.specs.declared.answer.Added.TheVariants.{Full}
-use Rattle.graph_history.specs.declared.view.View.{View}
+use Rattle.graph_history.specs.Views.{View}
 use Rattle.graph_history.specs.History.{state_of, HasCode, HasVertex}
 use Rattle.graph_history.specs.Desks.{by, IsEntry, spent, owed_spent, unpaid_after}
 use Rattle.graph_history.proofs.Histories.{stays_append}
 use Rattle.graph_history.proofs.OwnActs.{own_at}
 use Rattle.graph_history.proofs.DeskSteps.{entry_unpaid}
 use Rattle.graph_rule.specs.Values.{SeatValue}
-use Rattle.intern_cells.specs.Entries.{Enters}
-use Rattle.crystal_growers.specs.SharedDesks.{Worked}
-use Rattle.crystal_growers.proofs.SharedSteps.{worked_then, worked_entry, unpaid_entry}
+use Rattle.table_calls.specs.Entries.{Enters}
+use Rattle.shared_desk.specs.SharedDesks.{Worked}
+use Rattle.shared_desk.proofs.SharedSteps.{worked_then, worked_entry, unpaid_entry}
 use Rattle.graph_runs.specs.Runs.{HasSpent}
 use Rattle.graph_runs.specs.Ending.{IsEntering, HasEnteredRoots}
 

@@ -1,14 +1,14 @@
 -- The sessions come back.
-use Rattle.std.proofs.Common.{◌≡◌, refl, sym, subst, ap, ap₂, ◌∙◌, arith, ℕ, ◌+◌, ◌<◌, inl, inr, List, [], ◌∷◌, ◌++◌, length, get_or, Result, Ok, IfOk, Contains, append-nil, append_assoc, length-append}
+use Rattle.std.proofs.Common.{◌≡◌, refl, sym, subst, ap, ap₂, ◌∙◌, arith, ℕ, ◌+◌, ◌<◌, inl, inr, List, [], ◌∷◌, ◌++◌, length, get_or, Result, Ok, IfOk, Contains, append_assoc, length-append}
 use Rattle.std.proofs.lemmas.Bool.{cases_lt}
 use Rattle.std.proofs.lemmas.List.{get_or_append_left, get_or-append-add}
 use Rattle.std.proofs.lemmas.Result.{IfOk-at_ok}
 use Rattle.std.proofs.lemmas.List.Elements.{Contains-append_left, Contains-append_right}
+use Rattle.shared_seats.proofs.Fronts.{prefix_on}
 use Rattle.crystal_streams.specs.declared.faults.NoMemory.{NoMemory}
 use Rattle.tensor_words.specs.Worlds.{WorldType}
-use Rattle.graph_history.specs.declared.event.Event.{Event}
-use Rattle.graph_history.specs.declared.view.Kept.{Kept}
-use Rattle.graph_history.specs.declared.view.View.{View}
+use Rattle.graph_history.specs.Views.{Kept}
+use Rattle.graph_history.specs.Views.{View}
 use Rattle.graph_rule.specs.Parting.{joined}
 use Rattle.graph_rule.specs.Rule.{IsPrefix}
 use Rattle.graph_rule.specs.Told.{Advances}
@@ -20,12 +20,6 @@ use Rattle.graph_runs.specs.Beside.{IsBack}
 use Rattle.graph_runs.specs.Hearing.{Hears, IsHearing, AreWaiting}
 
 -- histories that begin with one another
-pub prefix_same : (h : List Event) → IsPrefix h h
-prefix_same h = ([], sym (append-nil h))
-
-pub prefix_on : (f g h : List Event) → IsPrefix f g → IsPrefix g h → IsPrefix f h
-prefix_on f g h (more, is) (rest, grown) = (more ++ rest, grown ∙ ap (λ (l : List Event). l ++ rest) is ∙ append_assoc f more rest)
-
 -- what was heard stays heard where nothing that is kept is lost
 pub hears_on : (w : WorldType) (v u : View) (script : List Command) (n : ℕ) (told : List Reply) → ((m : Kept) → Contains v.kept m → Contains u.kept m) → Hears w v script n told
     → Hears w u script n told

@@ -2,6 +2,5 @@ pub mod Serving
 pub mod Seating
 pub mod Heard
 pub mod Entering
-pub mod Ending
+pub mod Endings
 pub mod Telling
-pub mod Jobs

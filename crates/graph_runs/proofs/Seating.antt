@@ -2,10 +2,10 @@
 use Rattle.std.proofs.Common.{◌≡◌, sym, ap, ap₂, ◌∙◌, arith, ℕ, ◌+◌, ◌<◌, List, [], ◌∷◌, ◌++◌, length, get_or, Result, Ok, Err, IfOk}
 use Rattle.crystal_streams.specs.declared.faults.NoMemory.{NoMemory}
 use Rattle.graph_history.specs.declared.event.Event.{Event}
-use Rattle.graph_history.specs.declared.view.View.{View}
+use Rattle.graph_history.specs.Views.{View}
 use Rattle.graph_history.specs.Desks.{by}
 use Rattle.graph_rule.specs.Values.{GraphValue, SeatValue}
-use Rattle.crystal_growers.proofs.SharedSteps.{worked_belongs}
+use Rattle.shared_desk.proofs.SharedSteps.{worked_belongs}
 use Rattle.job_text.specs.declared.commands.Command.{Command}
 use Rattle.session_desk.specs.Replies.{replies}
 use Rattle.graph_runs.specs.declared.seats.Session.{Session}

@@ -5,13 +5,13 @@ use Rattle.std.proofs.lemmas.List.Elements.{All-map}
 use Rattle.tensor_words.specs.Worlds.{WorldType}
 use Rattle.graph_history.specs.declared.event.Act.{Act}
 use Rattle.graph_history.specs.declared.event.Event.{Event}
-use Rattle.graph_history.specs.declared.view.View.{View}
+use Rattle.graph_history.specs.Views.{View}
 use Rattle.graph_history.specs.History.{calls}
 use Rattle.graph_history.specs.Desks.{by, added_cells}
 use Rattle.graph_history.proofs.Growing.{calls_by}
 use Rattle.graph_rule.specs.Parting.{first_view}
 use Rattle.graph_rule.specs.Values.{GraphValue, SeatValue}
-use Rattle.crystal_growers.specs.SharedDesks.{DeskValue, standing_of, Worked}
+use Rattle.shared_desk.specs.SharedDesks.{DeskValue, standing_of, Worked}
 use Rattle.job_text.specs.declared.commands.Command.{Command}
 use Rattle.job_text.specs.declared.commands.Command.TheVariants.{Add}
 use Rattle.session_desk.specs.declared.reply.Reply.{Reply}

@@ -2,16 +2,18 @@
 use Rattle.std.proofs.Common.{◌≡◌, sym, subst, ap, ◌∙◌, arith, nat_eq, ℕ, ◌+◌, ◌-◌, ◌^◌, ◌<◌, ◌≤◌, inr, List, [], ◌++◌, length, get_or, Option, Some, All, Contains, append_assoc}
 use Rattle.std.specs.List.{IsDistinct}
 use Rattle.std.proofs.lemmas.List.Elements.{Contains-get_or}
+use Rattle.shared_seats.proofs.Fronts.{prefix_on}
+use Rattle.crystal_growers.proofs.Ended.{nothing_unpaid}
 use Rattle.tensor_words.specs.Worlds.{WorldType}
 use Rattle.canonical_graph.specs.Graphs.{FinishedType}
 use Rattle.graph_history.specs.declared.event.Event.{Event}
-use Rattle.graph_history.specs.declared.view.View.{View}
+use Rattle.graph_history.specs.Views.{View}
 use Rattle.graph_history.specs.History.{state_of, HasSome, IsLegal, calls}
 use Rattle.graph_rule.specs.Rule.{whole, IsPrefix}
 use Rattle.graph_rule.specs.Values.{GraphValue, SeatValue, Belongs}
-use Rattle.crystal_growers.specs.declared.growing.Grown.{Grown}
-use Rattle.crystal_growers.specs.declared.growing.Grown.TheVariants.{Closed, Full}
-use Rattle.crystal_growers.specs.Grow.{IsGrown}
+use Rattle.crystal_growers.specs.declared.growth.Grown.{Grown}
+use Rattle.crystal_growers.specs.declared.growth.Grown.TheVariants.{Closed, Full}
+use Rattle.crystal_growers.specs.Growth.{IsGrown}
 use Rattle.job_text.specs.declared.commands.Command.{Command}
 use Rattle.session_desk.specs.declared.reply.Reply.{Reply}
 use Rattle.session_desk.specs.Replies.{replies}
@@ -23,8 +25,8 @@ use Rattle.graph_runs.specs.Seating.{IsSeated}
 use Rattle.graph_runs.specs.Beside.{CanGrow}
 use Rattle.graph_runs.specs.Hearing.{Hears, AreHeard}
 use Rattle.graph_runs.specs.Ending.{IsLeft, IsOver}
-use Rattle.graph_runs.proofs.Heard.{prefix_on, hears_on}
-use Rattle.graph_runs.proofs.Ending.{grown_front, grown_full, grown_closed, spent_stays}
+use Rattle.graph_runs.proofs.Heard.{hears_on}
+use Rattle.graph_runs.proofs.Endings.{grown_front, grown_full, spent_stays}
 
 -- the starts stay in front
 started_on : (w : WorldType) (starts : List ℕ) (f h : List Event) → IsPrefix f h → IsStarted w starts f → IsStarted w starts h
@@ -79,7 +81,7 @@ module _ (g : GraphValue) (starts : List ℕ) (scripts : List (List Command)) (f
   module _ (grown heard : SeatValue) (answer : Grown) (told : List (List Reply)) (next : List ℕ) (e : IsGrown seated.view grown.view cells growers answer)
       (h : AreHeard g scripts grown heard told next) where
     left_by : (a : Grown) → IsGrown seated.view grown.view cells growers a → IsLeft heard next a
-    left_by Closed closed = h.joined.unpaid ∙ ap (λ (l : List ℕ). l ++ next) (grown_closed seated.view grown.view cells growers seated_unpaid closed)
+    left_by Closed closed = h.joined.unpaid ∙ ap (λ (l : List ℕ). l ++ next) (nothing_unpaid seated.view grown.view cells growers seated_unpaid closed)
     left_by (Full x) full = spent_stays grown.view.front heard.view.front h.joined.front (grown_full seated.view grown.view cells growers x full)
 
     pub is_left : IsLeft heard next answer
@@ -100,7 +102,7 @@ module _ (g : GraphValue) (starts : List ℕ) (scripts : List (List Command)) (f
       replied_last k below =
           let last = heard_last k below in
           let same : calls over.view.front (k + 1) ≡ last.kept.calls =
-          ap (λ (n : ℕ). calls over.view.front n) (sym last.number) ∙ o.known.agrees.own.kept last.kept last.there in
+          ap (λ (n : ℕ). calls over.view.front n) (sym last.number) ∙ o.known.sound.agrees.own.kept last.kept last.there in
           ap (λ (l : List Event). replies g.world.space (get_or scripts k []) l) same ∙ last.replied
 
       pub history : IsHistory g.world starts scripts over.view.front told

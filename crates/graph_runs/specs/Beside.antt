@@ -2,8 +2,8 @@
 use Rattle.std.specs.Prelude.{ℕ, ◌*◌, ◌^◌, ◌<◌, ◌≤◌, ◌≡◌, List, [], length, slice_index_or, Result, Some, IfOk, All}
 use Rattle.crystal_streams.specs.declared.faults.NoMemory.{NoMemory}
 use Rattle.graph_rule.specs.Values.{GraphValue, SeatValue, Belongs}
-use Rattle.crystal_growers.specs.Work.{CanDraw}
-use Rattle.crystal_growers.specs.Grow.{IsCovered, IsGrown}
+use Rattle.crystal_growers.specs.Drawing.{CanDraw}
+use Rattle.crystal_growers.specs.Growth.{IsCovered, IsGrown}
 use Rattle.job_text.specs.declared.commands.Command.{Command}
 use Rattle.session_desk.specs.Replies.{replies}
 use Rattle.session_desk.specs.Sessions.{IsAsked}

@@ -3,14 +3,14 @@ use Rattle.std.specs.Prelude.{ℕ, ◌*◌, ◌^◌, ◌≤◌, ◌≡◌, Bool,
 use Rattle.canonical_graph.specs.Graphs.{FinishedType}
 use Rattle.tensor_words.specs.Worlds.{WorldType}
 use Rattle.graph_history.specs.declared.event.Act.{Act}
-use Rattle.graph_history.specs.declared.view.Kept.{Kept}
+use Rattle.graph_history.specs.Views.{Kept}
 use Rattle.graph_history.specs.History.{state_of, HasCode}
 use Rattle.graph_history.specs.Laws.{HasRoots}
 use Rattle.graph_rule.specs.Rule.{whole, IsPrefix, IsKnown}
 use Rattle.graph_rule.specs.Values.{GraphValue, SeatValue, Belongs}
-use Rattle.crystal_growers.specs.SharedDesks.{Worked}
-use Rattle.crystal_growers.specs.declared.growing.Grown.{Grown}
-use Rattle.crystal_growers.specs.declared.growing.Grown.TheVariants.{Closed, Full}
+use Rattle.shared_desk.specs.SharedDesks.{Worked}
+use Rattle.crystal_growers.specs.declared.growth.Grown.{Grown}
+use Rattle.crystal_growers.specs.declared.growth.Grown.TheVariants.{Closed, Full}
 use Rattle.graph_runs.specs.Runs.{HasSpent, EndsRun}
 
 -- a seat that has the whole stake may end a run

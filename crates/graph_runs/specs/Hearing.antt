@@ -1,8 +1,7 @@
 -- What the sessions tell when they are back.
 use Rattle.std.specs.Prelude.{ℕ, ◌+◌, ◌<◌, ◌≡◌, List, [], ◌++◌, length, slice_index_or, Result, Some, IfOk, All, Contains}
 use Rattle.tensor_words.specs.Worlds.{WorldType}
-use Rattle.graph_history.specs.declared.view.Kept.{Kept}
-use Rattle.graph_history.specs.declared.view.View.{View}
+use Rattle.graph_history.specs.Views.{View, Kept}
 use Rattle.graph_rule.specs.Rule.{IsPrefix}
 use Rattle.crystal_streams.specs.declared.faults.NoMemory.{NoMemory}
 use Rattle.graph_rule.specs.Values.{GraphValue, SeatValue, Belongs}

@@ -1,6 +1,6 @@
 -- The seats of the sessions.
 use Rattle.std.specs.Prelude.{ℕ, ◌<◌, ◌≡◌, List, length, slice_index_or}
-use Rattle.graph_history.specs.declared.view.View.{View}
+use Rattle.graph_history.specs.Views.{View}
 use Rattle.graph_rule.specs.Parting.{cut_left, cut_right}
 use Rattle.graph_rule.specs.Values.{GraphValue, SeatValue, Belongs}
 use Rattle.graph_runs.specs.declared.seats.Session.{Session}

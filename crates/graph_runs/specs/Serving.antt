@@ -5,7 +5,7 @@ use Rattle.graph_history.specs.declared.event.Act.{Act}
 use Rattle.graph_history.specs.Desks.{by, added_cells}
 use Rattle.graph_rule.specs.Rule.{whole, IsKnown}
 use Rattle.graph_rule.specs.Values.{GraphValue, SeatValue, Belongs}
-use Rattle.crystal_growers.specs.SharedDesks.{Worked}
+use Rattle.shared_desk.specs.SharedDesks.{Worked}
 use Rattle.job_text.specs.declared.commands.Command.{Command}
 use Rattle.session_desk.specs.declared.reply.Reply.{Reply}
 use Rattle.session_desk.specs.Replies.{replies}

@@ -10,11 +10,12 @@ ghost use Rattle.graph_runs.specs.Beside.{CanGrow, IsGrowthOver, CanSit, HasSat}
 use crate::seats::Session;
 use crate::serve::{Served, serve};
 use crystal_growers::{Grown, grow};
-use crystal_streams::{Gate, NoMemory};
+use crystal_streams::NoMemory;
 use graph_rule::{Graph, Seat};
 use job_text::Scripts;
 use std::alloc::Global;
 use std::thread::{Threads, join, map_vec};
+use worker_gate::Gate;
 
 /// What a growth answered, and its seat.
 #[derive(Drop)]

@@ -10,12 +10,13 @@
 //! the cells. The seat that is left has seen this history to its end, and nobody else is at the graph. Nothing is
 //! promised of the order in which callers come.
 //!
-//! **Stands on** crystal_growers for growth and for desks at seats of the shared graph, session_desk for scripts, and
-//! graph_rule for the graph. Read `run`, then `serve`, `seats`, `beside`, `hear` and `finish`, its steps in order.
+//! **Stands on** crystal_growers for growth, shared_desk for desks at seats of the shared graph, graph_numbering for the
+//! finished graph, session_desk for scripts, and graph_rule for the graph. Read `run`, then `serve`, `seats`, `beside`, `hear`
+//! and `ending`, its steps in order.
 #![tactic(auto)]
 
 mod beside;
-mod finish;
+mod ending;
 mod hear;
 mod run;
 mod seats;

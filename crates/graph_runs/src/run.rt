@@ -5,12 +5,12 @@ ghost use Rattle.session_desk.specs.Texts.{IsPrintable};
 ghost use Rattle.graph_runs.specs.Runs.{IsHistory, EndsRun, Holds};
 
 use crate::beside::{GrownSeat, run_both};
-use crate::finish::finish;
+use crate::ending::end_run;
 use crate::hear::{Brought, hear};
 use crate::seats::seat_all;
 use crate::serve::{Served, begin};
 use canonical_graph::Finished;
-use crystal_streams::{Gate, NoMemory};
+use crystal_streams::NoMemory;
 use graph_history::Front;
 use graph_rule::{Graph, Seat};
 use job_text::Scripts;
@@ -18,6 +18,7 @@ use session_desk::Replies;
 use std::alloc::Global;
 use std::thread::Threads;
 use tensor_words::{Codes, World};
+use worker_gate::Gate;
 
 /// The graph of a run, and the seat into which all others were joined.
 #[derive(Drop)]
@@ -76,7 +77,7 @@ pub fn run_beside<R: Threads + Sync, G: Gate>(
     );
     let GrownSeat { mut seat, grown } = growth?;
     let Brought { told, cells } = hear(alloc, &graph, &mut seat, scripts, back?)?;
-    let finished = finish(rt, alloc, &graph, &mut seat, grown, cells, growers, gate)?;
+    let finished = end_run(rt, alloc, &graph, &mut seat, grown, cells, growers, gate)?;
     Ok(Ran {
         told,
         finished,

@@ -6,11 +6,11 @@ ghost use Rattle.job_text.specs.declared.commands.Command.TheVariants.{Add as Ad
 ghost use Rattle.session_desk.specs.Sessions.{IsAsked};
 ghost use Rattle.graph_runs.specs.Serving.{IsServed, IsBegun};
 
-use crystal_growers::SharedDesk;
 use crystal_streams::NoMemory;
 use graph_rule::{Graph, Seat};
 use job_text::{Command, Script};
 use session_desk::{Replies, run_script};
+use shared_desk::SharedDesk;
 use std::alloc::Global;
 use tensor_words::Codes;
 

@@ -2,6 +2,7 @@
 
 mod censuses;
 mod characters;
+mod components;
 mod graphs;
 mod matches;
 mod subsets;

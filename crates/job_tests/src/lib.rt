@@ -2,7 +2,7 @@
 //!
 //! Tests alone, which promise nothing: the check of a crate's tests proves the crate a second time, so they stand
 //! behind the crates that they try. The modules, in an order to read them in: `jobs` of job_text; `modes` of
-//! command_words; `desks` of session_desk; `texts` of answer_text.
+//! command_words; `desks` of session_desk; `texts` and `vertices` of answer_text.
 #![tactic(auto)]
 
 #[cfg(test)]

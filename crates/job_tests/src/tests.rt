@@ -4,3 +4,4 @@ mod desks;
 mod jobs;
 mod modes;
 mod texts;
+mod vertices;

@@ -1,5 +1,5 @@
 -- Codes in ascending order, each once.
-use Rattle.std.proofs.Common.{◌≡◌, sym, refl, ◌∙◌, ℕ, zero, suc, ◌+◌, ◌<◌, ◌≤◌, nat_lt, nat_eq, ◌==◌, true, false, if◌then◌else◌, List, [], ◌∷◌, length, get_or, All, Contains, ◌⊎◌, inl, inr, arith}
+use Rattle.std.proofs.Common.{◌≡◌, sym, refl, ◌∙◌, ℕ, zero, suc, ◌+◌, ◌<◌, ◌≤◌, nat_lt, nat_eq, ◌==◌, true, false, if◌then◌else◌, List, [], ◌∷◌, length, get_or, All, Contains, inl, inr, arith}
 use Rattle.std.specs.List.{dedup}
 use Rattle.std.specs.List.Retain.{IsFiltered, DiffersFromLast}
 use Rattle.std.specs.List.Sorted.{IsStrictlyIncreasing, IsPermutation, IsSorted}
@@ -10,8 +10,9 @@ use Rattle.std.proofs.lemmas.List.Filters.{dedup_is}
 use Rattle.std.proofs.lemmas.List.Kept.{AllPairs-from_increasing, Contains-dedup_nat, Contains-from_dedup}
 use Rattle.std.proofs.lemmas.List.Sorted.{Contains-permutation, IsPermutation-sym}
 use Rattle.std.proofs.lemmas.Map.Keys.{IsStrictlyIncreasing-dedup}
-use Rattle.tensor_words.proofs.Rising.{below_by_test, rising-cons}
-use Rattle.tensor_words.proofs.Walks.{same_members}
+use Rattle.std.proofs.lemmas.Bool.{ltb-true}
+use Rattle.list_facts.proofs.Lists.{in_cons, in_rest}
+use Rattle.list_facts.proofs.Rising.{rising-cons, same_members}
 use Rattle.job_text.specs.Jobs.{with_code, ascending}
 
 -- the code stands in its place, and the list stays ascending
@@ -35,7 +36,7 @@ above_kept : (d c : ℕ) (ds : List ℕ) → d < c → IsStrictlyIncreasing (d �
 above_kept d c [] lt rise = rising-cons d c [] lt (single c)
 above_kept d c (e ∷ es) lt rise =
     elim (nat_lt c e) as (λ b. nat_lt c e ≡ b → IsStrictlyIncreasing (d ∷ (if b then c ∷ e ∷ es else if c == e then e ∷ es else e ∷ with_code c es))) [
-      | true ↦ λ below. rising-cons d c (e ∷ es) lt (rising-cons c e es (below_by_test c e below) (later_rise d (e ∷ es) rise))
+      | true ↦ λ below. rising-cons d c (e ∷ es) lt (rising-cons c e es (ltb-true c e below) (later_rise d (e ∷ es) rise))
       | false ↦ λ over.
           elim (c == e) as (λ b. (c == e) ≡ b → IsStrictlyIncreasing (d ∷ (if b then e ∷ es else e ∷ with_code c es))) [
             | true ↦ λ same. rise
@@ -48,7 +49,7 @@ with_code_rises : (c : ℕ) (ds : List ℕ) → IsStrictlyIncreasing ds → IsSt
 with_code_rises c [] rise = single c
 with_code_rises c (d ∷ ds) rise =
     elim (nat_lt c d) as (λ b. nat_lt c d ≡ b → IsStrictlyIncreasing (if b then c ∷ d ∷ ds else if c == d then d ∷ ds else d ∷ with_code c ds)) [
-      | true ↦ λ below. rising-cons c d ds (below_by_test c d below) rise
+      | true ↦ λ below. rising-cons c d ds (ltb-true c d below) rise
       | false ↦ λ over.
           elim (c == d) as (λ b. (c == d) ≡ b → IsStrictlyIncreasing (if b then d ∷ ds else d ∷ with_code c ds)) [
             | true ↦ λ same. rise
@@ -65,13 +66,6 @@ ascending_rises (c ∷ cs) = with_code_rises c (ascending cs) (ascending_rises c
 first : (y : ℕ) (ys : List ℕ) (x : ℕ) → y ≡ x → Contains (y ∷ ys) x
 first y ys x is = (zero, omega arith, is)
 
-later : (y : ℕ) (ys : List ℕ) (x : ℕ) → Contains ys x → Contains (y ∷ ys) x
-later y ys x (k, below, is) = (suc k, omega arith, is)
-
-first_or_later : (y : ℕ) (ys : List ℕ) (x : ℕ) → Contains (y ∷ ys) x → (y ≡ x) ⊎ Contains ys x
-first_or_later y ys x (zero, below, is) = inl is
-first_or_later y ys x (suc k, below, is) = inr (k, omega arith, is)
-
 put_in : (c x : ℕ) (ds : List ℕ) → Contains (c ∷ ds) x → Contains (with_code c ds) x
 put_in c x [] there = there
 put_in c x (d ∷ ds) there =
@@ -79,15 +73,15 @@ put_in c x (d ∷ ds) there =
       | true ↦ λ below. there
       | false ↦ λ over.
           elim (c == d) as (λ b. (c == d) ≡ b → Contains (if b then d ∷ ds else d ∷ with_code c ds) x) [
-            | true ↦ λ same. elim (first_or_later c (d ∷ ds) x there) [
+            | true ↦ λ same. elim (in_cons c (d ∷ ds) x there) [
               | inl is ↦ first d ds x (sym (same_by_test c d same) ∙ is)
               | inr behind ↦ behind
             ]
-            | false ↦ λ other. elim (first_or_later c (d ∷ ds) x there) [
-              | inl is ↦ later d (with_code c ds) x (put_in c x ds (first c ds x is))
-              | inr behind ↦ elim (first_or_later d ds x behind) [
+            | false ↦ λ other. elim (in_cons c (d ∷ ds) x there) [
+              | inl is ↦ in_rest d (with_code c ds) x (put_in c x ds (first c ds x is))
+              | inr behind ↦ elim (in_cons d ds x behind) [
                 | inl is ↦ first d (with_code c ds) x is
-                | inr deep ↦ later d (with_code c ds) x (put_in c x ds (later c ds x deep))
+                | inr deep ↦ in_rest d (with_code c ds) x (put_in c x ds (in_rest c ds x deep))
               ]
             ]
           ] refl
@@ -100,12 +94,12 @@ taken_out c x (d ∷ ds) there =
       | true ↦ λ below here. here
       | false ↦ λ over.
           elim (c == d) as (λ b. (c == d) ≡ b → Contains (if b then d ∷ ds else d ∷ with_code c ds) x → Contains (c ∷ d ∷ ds) x) [
-            | true ↦ λ same here. later c (d ∷ ds) x here
-            | false ↦ λ other here. elim (first_or_later d (with_code c ds) x here) [
-              | inl is ↦ later c (d ∷ ds) x (first d ds x is)
-              | inr behind ↦ elim (first_or_later c ds x (taken_out c x ds behind)) [
+            | true ↦ λ same here. in_rest c (d ∷ ds) x here
+            | false ↦ λ other here. elim (in_cons d (with_code c ds) x here) [
+              | inl is ↦ in_rest c (d ∷ ds) x (first d ds x is)
+              | inr behind ↦ elim (in_cons c ds x (taken_out c x ds behind)) [
                 | inl is ↦ first c (d ∷ ds) x is
-                | inr deep ↦ later c (d ∷ ds) x (later d ds x deep)
+                | inr deep ↦ in_rest c (d ∷ ds) x (in_rest d ds x deep)
               ]
             ]
           ] refl
@@ -113,16 +107,16 @@ taken_out c x (d ∷ ds) there =
 
 pub ascending_has : (cs : List ℕ) (x : ℕ) → Contains cs x → Contains (ascending cs) x
 ascending_has [] x there = there
-ascending_has (c ∷ cs) x there = elim (first_or_later c cs x there) [
+ascending_has (c ∷ cs) x there = elim (in_cons c cs x there) [
   | inl is ↦ put_in c x (ascending cs) (first c (ascending cs) x is)
-  | inr behind ↦ put_in c x (ascending cs) (later c (ascending cs) x (ascending_has cs x behind))
+  | inr behind ↦ put_in c x (ascending cs) (in_rest c (ascending cs) x (ascending_has cs x behind))
 ]
 
 pub ascending_had : (cs : List ℕ) (x : ℕ) → Contains (ascending cs) x → Contains cs x
 ascending_had [] x there = there
-ascending_had (c ∷ cs) x there = elim (first_or_later c (ascending cs) x (taken_out c x (ascending cs) there)) [
+ascending_had (c ∷ cs) x there = elim (in_cons c (ascending cs) x (taken_out c x (ascending cs) there)) [
   | inl is ↦ first c cs x is
-  | inr behind ↦ later c cs x (ascending_had cs x behind)
+  | inr behind ↦ in_rest c cs x (ascending_had cs x behind)
 ]
 
 pub ascending_all : (P : ℕ → Type 0) (cs : List ℕ) → All P cs → All P (ascending cs)

@@ -2,14 +2,7 @@ pub mod Ascending
 pub mod JobRoots
 pub mod LineSteps
 pub mod OneMore
-pub mod SampleCommands
-pub mod SampleHeads
-pub mod SampleJobs
-pub mod SampleLines
-pub mod SampleSessions
-pub mod SampleTexts
-pub mod SampleWorked
-pub mod SampleWriting
 pub mod ShapeTypes
+pub mod Starts
 pub mod Worked
 pub mod WorldsMade

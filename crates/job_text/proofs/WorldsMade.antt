@@ -1,24 +1,22 @@
 -- Where a world is taken.
 use Rattle.std.proofs.Common.{◌≡◌, refl, ℕ, suc, ◌+◌, ◌<◌, ◌≤◌, nat_lt, ◌==◌, ◌||◌, true, false, List, [], ◌∷◌, length, All, None, Ok, arith}
 use Rattle.std.specs.List.Sorted.{IsStrictlyIncreasing}
+use Rattle.std.proofs.lemmas.Bool.{lt-ltb}
 use Rattle.std.proofs.lemmas.Bool.Decides.{nat_tests}
 use Rattle.std.proofs.lemmas.List.Elements.{All-tail}
 use Rattle.tensor_words.specs.Spaces.{SpaceType, size}
 use Rattle.tensor_words.specs.Worlds.{most_cells, world_of, place_of_no_word, place_of_no_rise, place_of_no_rise_after}
 
-test_below : (a b : ℕ) → a < b → nat_lt a b ≡ true
-test_below a b lt = grind (arith, nat_tests)
-
 all_words : (size n : ℕ) (cs : List ℕ) → All (λ c. c < size) cs → place_of_no_word size n cs ≡ None
 all_words size n [] all = refl
 all_words size n (c ∷ cs) all =
-    let below : nat_lt c size ≡ true = test_below c size (all 0 c (omega arith)) in
+    let below : nat_lt c size ≡ true = lt-ltb c size (all 0 c (omega arith)) in
     rw below (all_words size (n + 1) cs (All-tail (λ x. x < size) c cs all))
 
 all_rise_after : (n c : ℕ) (cs : List ℕ) → IsStrictlyIncreasing (c ∷ cs) → place_of_no_rise_after n c cs ≡ None
 all_rise_after n c [] rise = refl
 all_rise_after n c (d ∷ ds) rise =
-    let below : nat_lt c d ≡ true = test_below c d (rise 0 (omega arith)) in
+    let below : nat_lt c d ≡ true = lt-ltb c d (rise 0 (omega arith)) in
     let rest : IsStrictlyIncreasing (d ∷ ds) = λ k lt. let next : suc k + 1 ≡ suc (k + 1) = omega arith in rw next at (rise (suc k) (omega arith)) in
     rw below (all_rise_after (n + 1) d ds rest)
 

@@ -8,7 +8,7 @@ use Rattle.job_text.specs.declared.drafts.TypedHead.{TypedHead}
 use Rattle.job_text.specs.declared.commands.Command.{Command}
 use Rattle.job_text.specs.declared.commands.Ask.{Ask}
 use Rattle.job_text.specs.declared.jobs.Job.{Job}
-use Rattle.job_text.specs.Jobs.{IsScript, IsAsk, roots_of}
+use Rattle.job_text.specs.Jobs.{default_cells, IsScript, IsAsk, roots_of}
 
 -- the tensor order of a job: the standard one where no line gave it
 abbrev pub order_of : TypedHead → Order
@@ -73,7 +73,7 @@ abbrev pub job_of : Drafted → Job
 job_of d = record {
   world = record {
     space = d.space;
-    cells = unwrap_or d.cells 65536;
+    cells = unwrap_or d.cells default_cells;
     roots = roots_of (starts_of d) d.scripts;
   };
   starts = starts_of d;

@@ -16,6 +16,10 @@ use Rattle.job_text.specs.declared.jobs.Job.{Job}
 abbrev pub most_job_bytes : ℕ
 most_job_bytes = 1048576
 
+-- the number of cells of a job that gives none
+abbrev pub default_cells : ℕ
+default_cells = 65536
+
 -- a command speaks of a word of the space, and of an arrow or an index of its type; `done` of the whole graph
 abbrev pub IsCommand : SpaceType → Command → Type 0
 IsCommand s (Add c) = c < size s

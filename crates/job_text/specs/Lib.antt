@@ -5,4 +5,3 @@ pub mod Drafts
 pub mod DraftFields
 pub mod Judge
 pub mod Outcomes
-pub mod Samples

@@ -1,5 +1,5 @@
 //! The words behind a key word, read as numbers, types, spaces, shapes and words.
-ghost use Rattle.std.specs.Prelude.{◌≡◌, ◌<◌, ◌≤◌, [], ◌∷◌, ◌++◌, IsTrue, IfOk, OnOk, All, length};
+ghost use Rattle.std.specs.Prelude.{◌≡◌, ◌<◌, ◌≤◌, IsTrue, IfOk, All, length};
 ghost use Rattle.std.specs.List.{list_all};
 ghost use Rattle.crystal_cartan.specs.Types.{HasIndex};
 ghost use Rattle.tensor_words.specs.Spaces.{IsSpace, size};
@@ -14,86 +14,17 @@ ghost use Rattle.job_text.specs.Judge as spec;
 use crate::commands::Indices;
 use crate::faults::{JobWhy, Stop};
 use crystal_cartan::{Cartan, Kind};
+use list_facts::Listed;
 use std::alloc::{AllocError, Global};
-use std::marker::Model;
 use tableau_reading::{Shape, read_word};
 use tensor_words::{Factor, Order, Space};
 use text_pieces::{behind, first, first_word, number_of};
 
 /// Numbers below 10^9.
-#[derive(Debug, Drop)]
-pub(crate) struct Numbers {
-    list: Vec<u32>,
-}
+pub(crate) type Numbers = Listed<u32>;
 
 /// Factors of a space.
-#[derive(Debug, Drop)]
-struct Factors {
-    list: Vec<Factor>,
-}
-
-impl Model for Numbers {
-    ghost use Rattle.std.specs.Prelude.{List, ℕ};
-
-    ghost Value = { List ℕ };
-
-    ghost view = { λ s. s.list.items };
-}
-
-impl Model for Factors {
-    ghost use Rattle.std.specs.Prelude.{List};
-    ghost use Rattle.tensor_words.specs.declared.spaces.Factor.{Factor};
-
-    ghost Value = { List Factor };
-
-    ghost view = { λ s. s.list.items };
-}
-
-impl Numbers {
-    fn new(alloc: Global) -> Numbers
-        ensures { result ≡ [] }
-    {
-        Numbers {
-            list: Vec::new(alloc),
-        }
-    }
-
-    fn push(&mut self, number: u32) -> Result<(), AllocError>
-        ensures { OnOk result (self.new ≡ self.old ++ number ∷ []) }
-    {
-        self.list.push(number)?;
-        Ok(())
-    }
-
-    pub fn as_slice(&self) -> &[u32]
-        ensures { result.now ≡ self.now }
-    {
-        self.list.as_slice()
-    }
-}
-
-impl Factors {
-    fn new(alloc: Global) -> Factors
-        ensures { result ≡ [] }
-    {
-        Factors {
-            list: Vec::new(alloc),
-        }
-    }
-
-    fn push(&mut self, factor: Factor) -> Result<(), AllocError>
-        ensures { OnOk result (self.new ≡ self.old ++ factor ∷ []) }
-    {
-        self.list.push(factor)?;
-        Ok(())
-    }
-
-    fn as_slice(&self) -> &[Factor]
-        ensures { result.now ≡ self.now }
-    {
-        self.list.as_slice()
-    }
-}
+type Factors = Listed<Factor>;
 
 /// The number that a word is.
 pub(crate) fn number_read(word: &[u8]) -> Result<u32, Stop>
@@ -110,7 +41,7 @@ pub(crate) fn all_numbered(alloc: Global, text: &[u8]) -> Result<Numbers, Stop>
     ensures given { Gives result (spec.all_numbered (words text.now)) }
     ensures count { IfOk result (λ numbers. length numbers ≡ length (words text.now)) }
 {
-    let mut numbers = Numbers::new(alloc);
+    let mut numbers = Numbers::of(Vec::new(alloc));
     let mut rest = text;
     'words: while let Some((word, next)) = first_word(rest) {
         let Some(number) = number_of(word) else {
@@ -271,7 +202,7 @@ fn factor_of(word: &[u8]) -> Option<Factor>
 fn factored(alloc: Global, text: &[u8]) -> Result<Factors, Stop>
     ensures { Gives result (spec.factored (words text.now)) }
 {
-    let mut factors = Factors::new(alloc);
+    let mut factors = Factors::of(Vec::new(alloc));
     let mut rest = text;
     'words: while let Some((word, next)) = first_word(rest) {
         let Some(factor) = factor_of(word) else {

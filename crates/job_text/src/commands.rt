@@ -1,9 +1,7 @@
 //! What a job asks for: the commands of its sessions, and the asks at its end.
-ghost use Rattle.std.specs.Prelude.{◌≡◌, ◌<◌, ◌++◌, ◌∷◌, [], length, slice_index, slice_index_or, slice_get, Some, OnOk, OnErr};
 
 use crystal_cartan::Arrow;
-use std::alloc::AllocError;
-use std::marker::Model;
+use list_facts::Listed;
 use tableau_reading::Shape;
 
 /// A command of a session. Words stand as their codes.
@@ -39,162 +37,13 @@ pub enum Ask {
 }
 
 /// The indices of a `demazure` ask.
-#[derive(Debug, Drop)]
-pub struct Indices {
-    list: Vec<u8>,
-}
+pub type Indices = Listed<u8>;
 
 /// The commands of one session, in order.
-#[derive(Debug, Drop)]
-pub struct Script {
-    list: Vec<Command>,
-}
+pub type Script = Listed<Command>;
 
 /// The sessions of a job, in order.
-#[derive(Debug, Drop)]
-pub struct Scripts {
-    list: Vec<Script>,
-}
+pub type Scripts = Listed<Script>;
 
 /// The asks of a job, in order.
-#[derive(Debug, Drop)]
-pub struct Asks {
-    list: Vec<Ask>,
-}
-
-impl Model for Indices {
-    ghost use Rattle.std.specs.Prelude.{List, ℕ};
-
-    ghost Value = { List ℕ };
-
-    ghost view = { λ s. s.list.items };
-}
-
-impl Model for Script {
-    ghost use Rattle.std.specs.Prelude.{List};
-    ghost use Rattle.job_text.specs.declared.commands.Command.{Command};
-
-    ghost Value = { List Command };
-
-    ghost view = { λ s. s.list.items };
-}
-
-impl Model for Scripts {
-    ghost use Rattle.std.specs.Prelude.{List};
-    ghost use Rattle.job_text.specs.declared.commands.Command.{Command};
-
-    ghost Value = { List (List Command) };
-
-    ghost view = { λ s. s.list.items };
-}
-
-impl Model for Asks {
-    ghost use Rattle.std.specs.Prelude.{List};
-    ghost use Rattle.job_text.specs.declared.commands.Ask.{Ask};
-
-    ghost Value = { List Ask };
-
-    ghost view = { λ s. s.list.items };
-}
-
-impl Indices {
-    pub fn of(list: Vec<u8>) -> Indices
-        ensures { result ≡ list.items }
-    {
-        Indices { list }
-    }
-
-    pub fn len(&self) -> usize
-        ensures { result ≡ length self.now }
-    {
-        self.list.len()
-    }
-
-    /// The index at place k, from 0.
-    pub fn at(&self, k: usize) -> &u8
-        requires { k < length self.now }
-        ensures { result.now ≡ slice_index self.now k }
-    {
-        &self.list[k]
-    }
-}
-
-impl Script {
-    pub fn of(list: Vec<Command>) -> Script
-        ensures { result ≡ list.items }
-    {
-        Script { list }
-    }
-
-    pub fn len(&self) -> usize
-        ensures { result ≡ length self.now }
-    {
-        self.list.len()
-    }
-
-    /// The command at place k, from 0.
-    pub fn at(&self, k: usize) -> &Command
-        requires { k < length self.now }
-        ensures { slice_get self.now k ≡ Some result.now }
-    {
-        &self.list[k]
-    }
-
-    pub(crate) fn as_slice(&self) -> &[Command]
-        ensures { result.now ≡ self.now }
-    {
-        self.list.as_slice()
-    }
-
-    pub(crate) fn push(&mut self, command: Command) -> Result<(), AllocError>
-        ensures pushed { OnOk result (self.new ≡ self.old ++ command ∷ []) }
-        ensures kept { OnErr result (self.new ≡ self.old) }
-    {
-        self.list.push(command)?;
-        Ok(())
-    }
-}
-
-impl Scripts {
-    pub fn of(list: Vec<Script>) -> Scripts
-        ensures { result ≡ list.items }
-    {
-        Scripts { list }
-    }
-
-    pub fn len(&self) -> usize
-        ensures { result ≡ length self.now }
-    {
-        self.list.len()
-    }
-
-    /// The script of the session at place k, from 0.
-    pub fn at(&self, k: usize) -> &Script
-        requires { k < length self.now }
-        ensures { slice_get self.now k ≡ Some result.now }
-    {
-        &self.list[k]
-    }
-}
-
-impl Asks {
-    pub fn of(list: Vec<Ask>) -> Asks
-        ensures { result ≡ list.items }
-    {
-        Asks { list }
-    }
-
-    pub fn len(&self) -> usize
-        ensures { result ≡ length self.now }
-    {
-        self.list.len()
-    }
-
-    /// The ask at place k, from 0.
-    pub fn at(&self, k: usize) -> &Ask
-        requires { k < length self.now }
-        ensures { slice_get self.now k ≡ Some result.now }
-    {
-        &self.list[k]
-    }
-}
+pub type Asks = Listed<Ask>;

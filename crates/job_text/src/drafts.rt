@@ -13,7 +13,7 @@ ghost use Rattle.job_text.specs.Judge as spec;
 
 use crate::commands::{Ask, Asks, Command, Indices, Script, Scripts};
 use crate::faults::Stop;
-use crate::jobs::Job;
+use crate::jobs::{DEFAULT_CELLS, Job};
 use crate::keys::{JobPart, Version};
 use crate::{arguments, roots};
 use crystal_cartan::Cartan;
@@ -23,14 +23,14 @@ use tensor_words::{Codes, Order, Space};
 
 /// Behind the line `type`: the Cartan type, and the tensor order where a line gave it.
 #[derive(Debug, Drop)]
-pub(crate) struct TypedHead {
+pub struct TypedHead {
     pub cartan: Cartan,
     pub order: Option<Order>,
 }
 
 impl TypedHead {
     /// The tensor order: the standard one where no line gave it.
-    pub fn order(&self) -> Order
+    pub(crate) fn order(&self) -> Order
         ensures { result ≡ order_of self.now }
     {
         self.order.unwrap_or(Order::Standard)
@@ -39,7 +39,7 @@ impl TypedHead {
 
 /// From the line `shape` or `space` on.
 #[derive(Debug, Drop)]
-pub(crate) struct Draft {
+pub struct Draft {
     space: Space,
     top: Option<u64>,
     starts: Vec<u64>,
@@ -62,7 +62,7 @@ impl Model for Draft {
 
 /// What a job is known to be.
 #[derive(Debug, Drop)]
-pub(crate) enum Known {
+pub enum Known {
     /// Before the line `type`.
     Nothing,
     /// Behind the line `type`.
@@ -73,7 +73,7 @@ pub(crate) enum Known {
 
 /// Behind the header: the version, the part that the next line stands in, and what is known.
 #[derive(Debug, Drop)]
-pub(crate) struct Progress {
+pub struct Progress {
     pub version: Version,
     pub part: JobPart,
     pub known: Known,
@@ -81,7 +81,7 @@ pub(crate) struct Progress {
 
 /// How far the reading has come.
 #[derive(Debug, Drop)]
-pub(crate) enum Stage {
+pub enum Stage {
     /// Before the header.
     Unread,
     /// Behind the header.
@@ -90,7 +90,7 @@ pub(crate) enum Stage {
 
 impl Draft {
     /// The draft behind the line `shape`, with the code of the top word, or `space`.
-    pub fn fresh(alloc: Global, space: Space, top: Option<u64>) -> Draft
+    pub(crate) fn fresh(alloc: Global, space: Space, top: Option<u64>) -> Draft
         requires top { IfSome top (λ c. c < size space) }
         ensures { result ≡ fresh space top }
     {
@@ -105,42 +105,42 @@ impl Draft {
         }
     }
 
-    pub fn cartan(&self) -> Cartan
+    pub(crate) fn cartan(&self) -> Cartan
         ensures { result ≡ self.now.space.cartan }
     {
         self.space.cartan()
     }
 
     /// The tensor order of the job.
-    pub fn order(&self) -> Order
+    pub(crate) fn order(&self) -> Order
         ensures { result ≡ self.now.space.order }
     {
         self.space.order()
     }
 
     /// Whether the number of cells was given.
-    pub fn has_cells(&self) -> bool
+    pub(crate) fn has_cells(&self) -> bool
         ensures { result ≡ is_some self.now.cells }
     {
         self.cells.is_some()
     }
 
     /// The number of `start` lines.
-    pub fn start_count(&self) -> usize
+    pub(crate) fn start_count(&self) -> usize
         ensures { result ≡ length self.now.starts }
     {
         self.starts.len()
     }
 
     /// The number of sessions.
-    pub fn session_count(&self) -> usize
+    pub(crate) fn session_count(&self) -> usize
         ensures { result ≡ length self.now.scripts }
     {
         self.scripts.len()
     }
 
     /// The number of commands of the last session.
-    pub fn command_count(&self) -> usize
+    pub(crate) fn command_count(&self) -> usize
         ensures { result ≡ length (last_script self.now) }
     {
         match self.scripts.last() {
@@ -150,14 +150,14 @@ impl Draft {
     }
 
     /// The number of asks.
-    pub fn ask_count(&self) -> usize
+    pub(crate) fn ask_count(&self) -> usize
         ensures { result ≡ length self.now.asks }
     {
         self.asks.len()
     }
 
     /// The code of the word that a text is.
-    pub fn coded(&self, text: &[u8]) -> Result<u64, Stop>
+    pub(crate) fn coded(&self, text: &[u8]) -> Result<u64, Stop>
         ensures given { Gives result (spec.coded self.now.space (words text.now)) }
         ensures word { IfOk result (λ c. c < size self.now.space) }
     {
@@ -165,7 +165,7 @@ impl Draft {
     }
 
     /// The index that a word is.
-    pub fn indexed(&self, word: &[u8]) -> Result<u8, Stop>
+    pub(crate) fn indexed(&self, word: &[u8]) -> Result<u8, Stop>
         ensures given { Gives result (spec.indexed self.now.space word.now) }
         ensures index { IfOk result (HasIndex self.now.space.cartan) }
     {
@@ -173,7 +173,7 @@ impl Draft {
     }
 
     /// The indices that the words of a text are.
-    pub fn indices(&self, alloc: Global, text: &[u8]) -> Result<Indices, Stop>
+    pub(crate) fn indices(&self, alloc: Global, text: &[u8]) -> Result<Indices, Stop>
         requires some { 1 ≤ length (words text.now) }
         requires few { length (words text.now) ≤ 64 }
         ensures given { Gives result (spec.all_indexed self.now.space (words text.now)) }
@@ -183,7 +183,7 @@ impl Draft {
     }
 
     /// The draft with one more start.
-    pub fn with_start(self, code: u64) -> Result<Draft, AllocError>
+    pub(crate) fn with_start(self, code: u64) -> Result<Draft, AllocError>
         requires word { code < size self.space }
         requires room { length self.starts < 256 }
         ensures { IfOk result (λ d. d ≡ with_start self code) }
@@ -194,7 +194,7 @@ impl Draft {
     }
 
     /// The draft with this number of cells.
-    pub fn with_cells(self, cells: u32) -> Draft
+    pub(crate) fn with_cells(self, cells: u32) -> Draft
         requires { (1 ≤ cells) × (cells ≤ most_cells) }
         ensures { result ≡ with_cells self cells }
     {
@@ -204,7 +204,7 @@ impl Draft {
     }
 
     /// The draft with one more session.
-    pub fn with_session(self, alloc: Global) -> Result<Draft, AllocError>
+    pub(crate) fn with_session(self, alloc: Global) -> Result<Draft, AllocError>
         requires room { length self.scripts < 16 }
         ensures { IfOk result (λ d. d ≡ with_session self) }
     {
@@ -214,7 +214,7 @@ impl Draft {
     }
 
     /// The draft with one more command of the last session.
-    pub fn with_command(self, command: Command) -> Result<Draft, AllocError>
+    pub(crate) fn with_command(self, command: Command) -> Result<Draft, AllocError>
         requires command { IsCommand self.space command }
         requires room { length (last_script self) < 4096 }
         ensures { IfOk result (λ d. d ≡ with_command self command) }
@@ -228,7 +228,7 @@ impl Draft {
     }
 
     /// The draft with one more ask.
-    pub fn with_ask(self, ask: Ask) -> Result<Draft, AllocError>
+    pub(crate) fn with_ask(self, ask: Ask) -> Result<Draft, AllocError>
         requires ask { IsAsk self.space ask }
         requires room { length self.asks < 8 }
         ensures { IfOk result (λ d. d ≡ with_ask self ask) }
@@ -239,14 +239,14 @@ impl Draft {
     }
 
     /// Whether there is a start.
-    pub fn has_start(&self) -> bool
+    pub(crate) fn has_start(&self) -> bool
         ensures { result ≡ (is_some self.now.top || not (length self.now.starts == 0)) }
     {
         self.top.is_some() || !self.starts.is_empty()
     }
 
     /// The job of a draft with a start, whose lines are all read.
-    pub fn job(self, alloc: Global) -> Result<Job, AllocError>
+    pub(crate) fn job(self, alloc: Global) -> Result<Job, AllocError>
         requires { (is_some self.top || not (length self.starts == 0)) ≡ true }
         ensures same { IfOk result (λ j. j ≡ job_of self) }
         ensures job { IfOk result IsJob }
@@ -262,7 +262,7 @@ impl Draft {
         let starts = roots::all_starts(top, starts)?;
         let roots = roots::roots_of(alloc, starts.as_slice(), scripts.as_slice())?;
         Ok(Job {
-            world: roots::world_of(space, cells.unwrap_or(65536), roots),
+            world: roots::world_of(space, cells.unwrap_or(DEFAULT_CELLS), roots),
             starts: Codes::of(starts),
             scripts: Scripts::of(scripts),
             asks: Asks::of(asks),

@@ -6,7 +6,7 @@ ghost use Rattle.job_text.specs.Outcomes.{fault_at};
 use std::alloc::AllocError;
 use thiserror::Error;
 
-/// Why a line of a job is refused, or the whole job (`Missing`).
+/// Why a line of a job is refused, or the whole job (`Missing`, `TooLong`, `FewStarts`).
 #[derive(Clone, Copy, Debug, PartialEq, Eq)]
 pub enum JobWhy {
     /// A byte outside 32..126, or a last line with no end.
@@ -35,10 +35,15 @@ pub enum JobWhy {
     Missing,
     /// One more than is taken of starts, sessions, commands, asks or indices.
     TooMany,
+    /// More bytes than a job may have. Said of the whole text, which is not judged.
+    TooLong,
+    /// A single start, where two are compared. Said of a job that has no other fault.
+    FewStarts,
 }
 
 impl JobWhy {
-    /// The number that the program prints, 1 to 13.
+    /// The number that the program prints: 1 to 13 for what the judgement of a text finds, 14 and 16 for what is said of a whole
+    /// text or job.
     pub fn number(&self) -> u8
         ensures { result ≡ why_number self.now }
     {
@@ -56,6 +61,8 @@ impl JobWhy {
             JobWhy::CellsRange => 11,
             JobWhy::Missing => 12,
             JobWhy::TooMany => 13,
+            JobWhy::TooLong => 14,
+            JobWhy::FewStarts => 16,
         }
     }
 }

@@ -16,6 +16,9 @@ use text_pieces::cut;
 /// The most bytes of a job's text.
 pub const MOST_JOB_BYTES: usize = 1_048_576;
 
+/// The number of cells of a job that gives none.
+pub(crate) const DEFAULT_CELLS: u32 = 65_536;
+
 /// A job that was read.
 #[derive(Debug, Drop)]
 pub struct Job {

@@ -9,7 +9,7 @@ use WordsBehind::{AtLeast, Exactly};
 
 /// The version of a job, which its header tells.
 #[derive(Clone, Copy, Debug, PartialEq, Eq)]
-pub(crate) enum Version {
+pub enum Version {
     One,
     Two,
 }
@@ -40,7 +40,7 @@ pub(crate) enum Key {
 
 /// The parts of a job, in their order.
 #[derive(Clone, Copy, Debug, PartialEq, Eq)]
-pub(crate) enum JobPart {
+pub enum JobPart {
     Opening,
     Typed,
     Head,

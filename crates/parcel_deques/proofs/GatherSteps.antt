@@ -1,4 +1,4 @@
--- All benches of a call meet, pair by pair.
+-- All benches of a call swap passes, pair by pair.
 use Rattle.std.proofs.Common.{◌≡◌, ◌≢◌, refl, sym, ap, subst, ◌∙◌, ℕ, zero, suc, ◌+◌, ◌-◌, ◌<◌, ◌≤◌, ◌==◌, ◌⊎◌, inl, inr, Bool, true, false, cond, List, [], ◌∷◌, ◌++◌, length, set, get_or, take, drop, Contains, arith}
 use Rattle.std.proofs.lemmas.Bool.{cases_eq, cases_lt, eqb-true, eq-eqb, ne_eqb, cond-true, cond-false}
 use Rattle.std.proofs.lemmas.List.{append-nil, length-set, length-append, get_or-set_same, get_or-set_other, get_or_default, get_or_append_left, get_or-append_right, set-append_left, set-append_right, take_all, drop_all}
@@ -10,7 +10,7 @@ use Rattle.parcel_deques.specs.Ends.{DequeId}
 use Rattle.parcel_deques.specs.Benches.{BenchValue}
 use Rattle.parcel_deques.specs.Making.{AreApart}
 use Rattle.parcel_deques.specs.Gather.{all_taken, AreGathered}
-use Rattle.parcel_deques.specs.Meeting.{count_of, HasMet, HaveMet, MayMeet, HaveMetAt, IsStage, AreMeeting}
+use Rattle.parcel_deques.specs.Swapping.{count_of, HasSwapped, HaveSwapped, MaySwap, HaveSwappedAt, IsStage, AreSwapping}
 use Rattle.parcel_deques.proofs.Weights.{weigh-append}
 
 one_true : (b : Bool) → b ≡ true → cond {A = ℕ} b 1 0 ≡ 1
@@ -57,22 +57,22 @@ all_owned n (s ∷ ss) none = All-cons (IsOwned n) s ss (here (cases_eq s.tag.ow
     here (inr other) = let one = one_true (s.tag.owner == s.tag.owner) (eq-eqb s.tag.owner s.tag.owner refl) in let count = none s.tag.owner other in absurd (omega arith)
 
 -- one bench, one other more
-pub stage_next : (call : List DequeId) (k c : ℕ) (old b now : BenchValue) → IsStage call k c old b → HasMet c b now → c ≢ k → IsStage call k (c + 1) old now
-stage_next call k c old b now s met differ = record {
-  number = met.number ∙ s.number;
-  call_is = met.call ∙ s.call_is;
-  pushed = met.pushed ∙ s.pushed;
-  capacity = met.capacity ∙ s.capacity;
+pub stage_next : (call : List DequeId) (k c : ℕ) (old b now : BenchValue) → IsStage call k c old b → HasSwapped c b now → c ≢ k → IsStage call k (c + 1) old now
+stage_next call k c old b now s swapped differ = record {
+  number = swapped.number ∙ s.number;
+  call_is = swapped.call ∙ s.call_is;
+  pushed = swapped.pushed ∙ s.pushed;
+  capacity = swapped.capacity ∙ s.capacity;
   own = at_home k (Contains-append_left b.home (c ∷ []) k s.own);
   home = λ x low. at_home x (elim (cases_eq x c) [
     | inl is ↦ subst (λ (n : ℕ). Contains (b.home ++ c ∷ []) n) (sym is) (Contains-push b.home c)
     | inr other ↦ Contains-append_left b.home (c ∷ []) x (s.home x (omega arith))
   ]);
-  home_only = λ x high other there. elim (Contains-push_cases b.home c x (subst (λ (l : List ℕ). Contains l x) met.home there)) [
+  home_only = λ x high other there. elim (Contains-push_cases b.home c x (subst (λ (l : List ℕ). Contains l x) swapped.home there)) [
     | inl before ↦ s.home_only x (omega arith) other before
     | inr is ↦ absurd (omega arith)
   ];
-  away_only = λ x high other there. elim (Contains-push_cases b.away c x (same_contains now.away (b.away ++ c ∷ []) x met.away there)) [
+  away_only = λ x high other there. elim (Contains-push_cases b.away c x (same_contains now.away (b.away ++ c ∷ []) x swapped.away there)) [
     | inl before ↦ s.away_only x (omega arith) other before
     | inr is ↦ absurd (omega arith)
   ];
@@ -80,14 +80,14 @@ stage_next call k c old b now s met differ = record {
 }
   where
     at_home : (x : ℕ) → Contains (b.home ++ c ∷ []) x → Contains now.home x
-    at_home x h = subst (λ (l : List ℕ). Contains l x) (sym met.home) h
+    at_home x h = subst (λ (l : List ℕ). Contains l x) (sym swapped.home) h
 
     taken : (x : ℕ) → (x < c + 1) ⊎ (length call ≤ x) → x ≢ k → (x ≡ c) ⊎ (x ≡ c → ⊥) → count_of x now.taken ≡ 0
-    taken x out other (inl is) = subst (λ (n : ℕ). count_of n now.taken ≡ 0) (sym is) met.none
-    taken x (inl low) other (inr not_c) = met.others x (λ e. other (e ∙ s.number)) not_c ∙ s.taken x (inl (omega arith)) other
-    taken x (inr past) other (inr not_c) = met.others x (λ e. other (e ∙ s.number)) not_c ∙ s.taken x (inr past) other
+    taken x out other (inl is) = subst (λ (n : ℕ). count_of n now.taken ≡ 0) (sym is) swapped.none
+    taken x (inl low) other (inr not_c) = swapped.others x (λ e. other (e ∙ s.number)) not_c ∙ s.taken x (inl (omega arith)) other
+    taken x (inr past) other (inr not_c) = swapped.others x (λ e. other (e ∙ s.number)) not_c ∙ s.taken x (inr past) other
 
--- it need not meet itself
+-- it need not swap with itself
 pub stage_skip : (call : List DequeId) (k : ℕ) (old b : BenchValue) → IsStage call k k old b → IsStage call k (k + 1) old b
 stage_skip call k old b s = record {
   number = s.number;
@@ -137,26 +137,26 @@ halves xs front back i j n one two parts long before all =
     ∙ ap (λ (l : List BenchValue). set l j two) (sym (set-append_left front back i one (omega arith)))
     ∙ ap (λ (l : List BenchValue). set (set l i one) j two) (sym parts)
 
-pub met_halves : (xs front back : List BenchValue) (i j n : ℕ) (e f one two : BenchValue) → xs ≡ front ++ back → length front ≡ j → i < j → j < length xs → n ≡ length xs
-    → HaveMet (get_or front i e) (get_or back 0 f) one two
-    → HaveMetAt i j xs (take n ((set front i one ++ set back 0 two) ++ drop (length (set front i one ++ set back 0 two)) xs))
-met_halves xs front back i j n e f one two parts long before within all met = record {
+pub swapped_halves : (xs front back : List BenchValue) (i j n : ℕ) (e f one two : BenchValue) → xs ≡ front ++ back → length front ≡ j → i < j → j < length xs → n ≡ length xs
+    → HaveSwapped (get_or front i e) (get_or back 0 f) one two
+    → HaveSwappedAt i j xs (take n ((set front i one ++ set back 0 two) ++ drop (length (set front i one ++ set back 0 two)) xs))
+swapped_halves xs front back i j n e f one two parts long before within all swapped = record {
   one = one;
   two = two;
   is = halves xs front back i j n one two parts long before all;
-  met = λ d.
+  swapped = λ d.
       let whole = ap length parts in
       let sum = length-append front back in
       let at : j - j ≡ 0 = omega arith in
       let first : get_or xs i d ≡ get_or front i e = ap (λ (l : List BenchValue). get_or l i d) parts ∙ get_or_append_left front back d i (omega arith) ∙ get_or_default front i d e (omega arith) in
       let second : get_or xs j d ≡ get_or back 0 f =
       ap (λ (l : List BenchValue). get_or l j d) parts ∙ get_or-append_right front back j j d long (omega arith) ∙ ap (λ (k : ℕ). get_or back k d) at ∙ get_or_default back 0 d f (omega arith) in
-      subst (λ (a : BenchValue). HaveMet a (get_or xs j d) one two) (sym first) (subst (λ (b : BenchValue). HaveMet (get_or front i e) b one two) (sym second) met);
+      subst (λ (a : BenchValue). HaveSwapped a (get_or xs j d) one two) (sym first) (subst (λ (b : BenchValue). HaveSwapped (get_or front i e) b one two) (sym second) swapped);
 }
 
--- two benches may meet
-pub may_meet : (i j : ℕ) (old now : List BenchValue) (d : BenchValue) → AreMeeting i j old now → i < j → j < length old → MayMeet (get_or now i d) (get_or now j d)
-may_meet i j old now d p before within =
+-- two benches may swap passes
+pub may_swap : (i j : ℕ) (old now : List BenchValue) (d : BenchValue) → AreSwapping i j old now → i < j → j < length old → MaySwap (get_or now i d) (get_or now j d)
+may_swap i j old now d p before within =
     let one = p.between i d d (omega arith) before in
     let two = p.this d d within in
     record {
@@ -169,7 +169,7 @@ may_meet i j old now d p before within =
     }
 
 -- one pair more
-module _ (i j : ℕ) (old now new : List BenchValue) (p : AreMeeting i j old now) (m : HaveMetAt i j now new) (before : i < j) (within : j < length old) where
+module _ (i j : ℕ) (old now new : List BenchValue) (p : AreSwapping i j old now) (m : HaveSwappedAt i j now new) (before : i < j) (within : j < length old) where
   at_one : (e : BenchValue) → get_or new i e ≡ m.one
   at_one e =
       let many = p.many in
@@ -190,15 +190,15 @@ module _ (i j : ℕ) (old now new : List BenchValue) (p : AreMeeting i j old now
 
   stage_one : (d e : BenchValue) → IsStage p.call i (j + 1) (get_or old i d) (get_or new i e)
   stage_one d e =
-      let met : HasMet j (get_or now i e) m.one = subst (λ (n : ℕ). HasMet n (get_or now i e) m.one) (p.this d e within).number (m.met e).first in
+      let swapped : HasSwapped j (get_or now i e) m.one = subst (λ (n : ℕ). HasSwapped n (get_or now i e) m.one) (p.this d e within).number (m.swapped e).first in
       subst (λ (b : BenchValue). IsStage p.call i (j + 1) (get_or old i d) b) (sym (at_one e))
-      (stage_next p.call i j (get_or old i d) (get_or now i e) m.one (p.between i d e (omega arith) before) met (λ same. omega arith))
+      (stage_next p.call i j (get_or old i d) (get_or now i e) m.one (p.between i d e (omega arith) before) swapped (λ same. omega arith))
 
   stage_two : (d e : BenchValue) → IsStage p.call j (i + 1) (get_or old j d) (get_or new j e)
   stage_two d e =
-      let met : HasMet i (get_or now j e) m.two = subst (λ (n : ℕ). HasMet n (get_or now j e) m.two) (p.between i d e (omega arith) before).number (m.met e).second in
+      let swapped : HasSwapped i (get_or now j e) m.two = subst (λ (n : ℕ). HasSwapped n (get_or now j e) m.two) (p.between i d e (omega arith) before).number (m.swapped e).second in
       subst (λ (b : BenchValue). IsStage p.call j (i + 1) (get_or old j d) b) (sym (at_two e))
-      (stage_next p.call j i (get_or old j d) (get_or now j e) m.two (p.this d e within) met (λ same. omega arith))
+      (stage_next p.call j i (get_or old j d) (get_or now j e) m.two (p.this d e within) swapped (λ same. omega arith))
 
   stage_other : (k c : ℕ) (d e : BenchValue) → k ≢ i → k ≢ j → IsStage p.call k c (get_or old k d) (get_or now k e) → IsStage p.call k c (get_or old k d) (get_or new k e)
   stage_other k c d e not_one not_two s = subst (λ (b : BenchValue). IsStage p.call k c (get_or old k d) b) (sym (at_other k e not_one not_two)) s
@@ -211,11 +211,11 @@ module _ (i j : ℕ) (old now new : List BenchValue) (p : AreMeeting i j old now
       let first = all_weigh-set h now i m.one d (omega arith) in
       let second = all_weigh-set h (set now i m.one) j m.two d (omega arith) in
       let kept = ap (λ (b : BenchValue). weigh h b.taken) (get_or-set_other now i j m.one d (λ same. omega arith)) in
-      let pair = (m.met d).slips h in
+      let pair = (m.swapped d).slips h in
       omega arith
 
-  pub meet_next : AreMeeting (i + 1) j old new
-  meet_next = record {
+  pub swap_next : AreSwapping (i + 1) j old new
+  swap_next = record {
     many = ap length m.is ∙ length-set (set now i m.one) j m.two ∙ length-set now i m.one ∙ p.many;
     call = p.call;
     long = p.long;
@@ -230,9 +230,9 @@ module _ (i j : ℕ) (old now new : List BenchValue) (p : AreMeeting i j old now
     slips = λ h. same_slips h ∙ p.slips h;
   }
 
--- the bench j has met all below it
-pub meet_more : (j : ℕ) (old now : List BenchValue) → AreMeeting j j old now → j < length old → AreMeeting 0 (j + 1) old now
-meet_more j old now p within = record {
+-- the bench j has swapped passes with all below it
+pub swap_more : (j : ℕ) (old now : List BenchValue) → AreSwapping j j old now → j < length old → AreSwapping 0 (j + 1) old now
+swap_more j old now p within = record {
   many = p.many;
   call = p.call;
   long = p.long;
@@ -247,9 +247,9 @@ meet_more j old now p within = record {
   slips = p.slips;
 }
 
--- no bench has met another
-pub meet_none : (bs : List BenchValue) → AreApart bs → ((k : ℕ) (d : BenchValue) → k < length bs → AllBelow (length (get_or bs k d).call) (get_or bs k d).taken) → AreMeeting 0 0 bs bs
-meet_none bs a owners = record {
+-- no bench has swapped passes with another
+pub swap_none : (bs : List BenchValue) → AreApart bs → ((k : ℕ) (d : BenchValue) → k < length bs → AllBelow (length (get_or bs k d).call) (get_or bs k d).taken) → AreSwapping 0 0 bs bs
+swap_none bs a owners = record {
   many = refl;
   call = a.call;
   long = a.long;
@@ -283,9 +283,9 @@ meet_none bs a owners = record {
           ];
         }
 
--- all have met
-pub meet_all : (old now : List BenchValue) → AreMeeting 0 (length old) old now → AreGathered old now
-meet_all old now p = record {
+-- all have swapped passes
+pub swap_all : (old now : List BenchValue) → AreSwapping 0 (length old) old now → AreGathered old now
+swap_all old now p = record {
   many = p.many;
   each = λ k d e in_list.
       let s = p.between k d e (omega arith) in_list in

@@ -4,9 +4,10 @@ use Rattle.std.specs.List.{IsDistinct}
 use Rattle.std.specs.Set.{is_member}
 use Rattle.std.proofs.lemmas.List.Elements.{All-weaker, All-contains_itself}
 use Rattle.graph_history.specs.declared.event.Event.{Event}
-use Rattle.graph_history.specs.declared.view.View.{View}
+use Rattle.graph_history.specs.Views.{View}
 use Rattle.graph_history.specs.History.{state_of, HasSome}
-use Rattle.graph_history.proofs.CellLists.{into, out_of, part_of, part_has}
+use Rattle.graph_history.proofs.CellLists.{into, out_of, part_of}
+use Rattle.list_facts.proofs.Lists.{filter_keeps}
 use Rattle.graph_rule.specs.Rule.{IsKnown}
 use Rattle.graph_rule.specs.Parting.{hand_right}
 use Rattle.graph_rule.specs.Values.{GraphValue, SeatValue, Belongs}
@@ -26,6 +27,6 @@ handed_on g s child stake cells belongs known few once unpaid table view = recor
   once = once;
   there = subst (λ (f : List Event). All (HasSome (state_of f)) cells) (sym (ap (λ (v : View). v.front) view)) (unpaid_there s.view cells known unpaid);
   owed = λ c h. out_of cells c ((part_of (is_member nat_eq cells) s.view.dues.owed c (subst (λ (v : View). Contains v.dues.owed c) view h)).1);
-  unpaid = λ c h. subst (λ (v : View). Contains v.dues.unpaid c) (sym view) (part_has (is_member nat_eq cells) s.view.dues.unpaid c (unpaid c h) (into cells c h));
+  unpaid = λ c h. subst (λ (v : View). Contains v.dues.unpaid c) (sym view) (filter_keeps (is_member nat_eq cells) s.view.dues.unpaid c (unpaid c h) (into cells c h));
   no_other = λ c h. out_of cells c ((part_of (is_member nat_eq cells) s.view.dues.unpaid c (subst (λ (v : View). Contains v.dues.unpaid c) view h)).1);
 }

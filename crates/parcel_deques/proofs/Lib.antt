@@ -1,4 +1,4 @@
-mod MeetSteps
+mod SwapSteps
 mod GatherSteps
 mod SharingSteps
 pub mod Apart

@@ -10,7 +10,7 @@ use Rattle.parcel_deques.specs.declared.parcel.Slip.{Slip}
 use Rattle.parcel_deques.specs.declared.rule.Hand.{Hand}
 use Rattle.parcel_deques.specs.Lists.{weigh, SameItems}
 use Rattle.parcel_deques.specs.Parcels.{tag_of, IsOwned, AllOwned}
-use Rattle.parcel_deques.specs.Rule.{all_shares, founder, loaded, took, share_kept, share_given, absorbed, spent, AllTagged, FitsDeque, DequeHolds, Drained, IsTaking, IsLoading}
+use Rattle.parcel_deques.specs.Rule.{all_shares, founder, loaded, took, share_kept, share_given, absorbed, used_up, AllTagged, FitsDeque, DequeHolds, Drained, IsTaking, IsLoading}
 use Rattle.parcel_deques.proofs.Weights.{weigh-append, weigh-push, weigh-set, weigh-at, weigh-two, weigh_ones, weigh_alone, no_items}
 use Rattle.parcel_deques.proofs.Slips.{tagged_owned, tagged_left, tagged_right, tagged_push}
 
@@ -174,10 +174,10 @@ module _ (port : ℕ) (v : Hand) (other : ℕ) (u : Hand) (may : v.pushes ≡ tr
   glue_both : FitsDeque h.deque h.owner h.pushed port (absorbed v u)
   glue_both = record { pushes = λ _. (h.fits port v at).pushes may; idle = λ none. absurd (omega arith); deque_is = λ _. (h.fits port v at).deque_is live; owned = λ _. glue_owned }
 
-  glue_spent : FitsDeque h.deque h.owner h.pushed other spent
-  glue_spent = record { pushes = λ p. absurd (true≢false (sym p)); idle = λ _. refl; deque_is = λ (some_share : 0 < 0). absurd (omega arith); owned = λ (some_share : 0 < 0). absurd (omega arith) }
+  glue_used_up : FitsDeque h.deque h.owner h.pushed other used_up
+  glue_used_up = record { pushes = λ p. absurd (true≢false (sym p)); idle = λ _. refl; deque_is = λ (some_share : 0 < 0). absurd (omega arith); owned = λ (some_share : 0 < 0). absurd (omega arith) }
 
-  merging_on : get_elem? (set views port (absorbed v u)) other ≡ some u → DequeHolds items (set (set views port (absorbed v u)) other spent)
+  merging_on : get_elem? (set views port (absorbed v u)) other ≡ some u → DequeHolds items (set (set views port (absorbed v u)) other used_up)
   merging_on there = record {
     owner = h.owner;
     deque = h.deque;
@@ -185,14 +185,14 @@ module _ (port : ℕ) (v : Hand) (other : ℕ) (u : Hand) (may : v.pushes ≡ tr
     taken = h.taken;
     rest = h.rest;
     tagged = h.tagged;
-    whole_is = let one = weigh-set (λ (w : Hand). w.share) views port v (absorbed v u) at in let next = weigh-set (λ (w : Hand). w.share) (set views port (absorbed v u)) other u spent there in
+    whole_is = let one = weigh-set (λ (w : Hand). w.share) views port v (absorbed v u) at in let next = weigh-set (λ (w : Hand). w.share) (set views port (absorbed v u)) other u used_up there in
         let all = h.whole_is in omega arith;
-    each = λ g. let one = weigh-set (λ (w : Hand). weigh g w.taken) views port v (absorbed v u) at in let next = weigh-set (λ (w : Hand). weigh g w.taken) (set views port (absorbed v u)) other u spent there in
+    each = λ g. let one = weigh-set (λ (w : Hand). weigh g w.taken) views port v (absorbed v u) at in let next = weigh-set (λ (w : Hand). weigh g w.taken) (set views port (absorbed v u)) other u used_up there in
         let all = h.each g in let sum = weigh-append g v.taken u.taken in omega arith;
-    fits = fit_set (FitsDeque h.deque h.owner h.pushed) (set views port (absorbed v u)) other spent glue_spent
+    fits = fit_set (FitsDeque h.deque h.owner h.pushed) (set views port (absorbed v u)) other used_up glue_used_up
         (λ j w apart e. fit_set (FitsDeque h.deque h.owner h.pushed) views port (absorbed v u) glue_both (λ i y _ f. h.fits i y f) j w e);
   }
 
-pub merges : (port : ℕ) (v : Hand) (other : ℕ) (u : Hand) → v.pushes ≡ true → 0 < v.share → 0 < u.share → Merges DequeHolds port v other u (absorbed v u) spent
+pub merges : (port : ℕ) (v : Hand) (other : ℕ) (u : Hand) → v.pushes ≡ true → 0 < v.share → 0 < u.share → Merges DequeHolds port v other u (absorbed v u) used_up
 merges port v other u may live alive items views h at two there = merging_on port v other u may live alive items views h at two
     (⊎_elim (λ (x : (other ≡ port) × (absorbed v u ≡ u)). absurd (two x.0)) (λ (x : (other ≢ port) × (get_elem? views other ≡ some u)). x.1) (at_set views port other (absorbed v u) u there)) there

@@ -6,5 +6,5 @@ pub mod Benches
 pub mod Owners
 pub mod Making
 pub mod Gather
-pub mod Meeting
+pub mod Swapping
 pub mod Sharing

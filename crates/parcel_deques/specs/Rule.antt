@@ -36,8 +36,8 @@ share_given deque taker = hand deque 1 false [] [] (taker ∷ [])
 abbrev pub absorbed : Hand → Hand → Hand
 absorbed v w = hand v.deque (v.share + w.share) true v.pushed (v.taken ++ w.taken) (v.home ++ w.home)
 
-abbrev pub spent : Hand
-spent = hand 0 0 false [] [] []
+abbrev pub used_up : Hand
+used_up = hand 0 0 false [] [] []
 
 -- each slip has the deque's number, and its place among all that were loaded
 abbrev pub AllTagged : ℕ → ℕ → List Slip → Type 0

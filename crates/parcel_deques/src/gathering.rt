@@ -4,15 +4,15 @@ ghost use Rattle.parcel_deques.specs.Parcels.{AllBelow};
 ghost use Rattle.parcel_deques.specs.Benches.{BenchValue};
 ghost use Rattle.parcel_deques.specs.Making.{AreApart};
 ghost use Rattle.parcel_deques.specs.Gather.{AreGathered};
-ghost use Rattle.parcel_deques.specs.Meeting.{MayMeet, HaveMet, HaveMetAt, AreMeeting};
+ghost use Rattle.parcel_deques.specs.Swapping.{MaySwap, HaveSwapped, HaveSwappedAt, AreSwapping};
 
 use crate::bench::Bench;
 use crate::parcel::Naming;
 
 /// Two benches bring each other's passes home.
 fn pair<J: Naming>(one: &mut Bench<J>, two: &mut Bench<J>)
-    requires { MayMeet one.old two.old }
-    ensures { HaveMet one.old two.old one.new two.new }
+    requires { MaySwap one.old two.old }
+    ensures { HaveSwapped one.old two.old one.new two.new }
 {
     one.take_over(two);
     two.take_over(one);
@@ -21,17 +21,17 @@ fn pair<J: Naming>(one: &mut Bench<J>, two: &mut Bench<J>)
 /// The benches at two places do.
 fn pair_at<J: Naming>(benches: &mut Vec<Bench<J>>, first: usize, second: usize)
     requires places { (first < second) × (second < length benches.old.items) }
-    requires may { (d : BenchValue) → MayMeet (slice_index_or benches.old.items first d) (slice_index_or benches.old.items second d) }
-    ensures { HaveMetAt first second benches.old.items benches.new.items }
+    requires may { (d : BenchValue) → MaySwap (slice_index_or benches.old.items first d) (slice_index_or benches.old.items second d) }
+    ensures { HaveSwappedAt first second benches.old.items benches.new.items }
 {
     let (front, back) = benches.split_at_mut(second);
     pair(&mut front[first], &mut back[0]);
 }
 
-/// One bench meets all before it. `old` are the benches before any of them met.
-fn meet_before<J: Naming>(benches: &mut Vec<Bench<J>>, second: usize)
-    requires { (old : List BenchValue) × AreMeeting 0 second old benches.old.items × (second < length old) }
-    ensures { (old : List BenchValue) → second < length old → AreMeeting 0 second old benches.old.items → AreMeeting 0 (second + 1) old benches.new.items }
+/// One bench swaps passes with all before it. `old` are the benches before any of them did.
+fn swap_with_earlier<J: Naming>(benches: &mut Vec<Bench<J>>, second: usize)
+    requires { (old : List BenchValue) × AreSwapping 0 second old benches.old.items × (second < length old) }
+    ensures { (old : List BenchValue) → second < length old → AreSwapping 0 second old benches.old.items → AreSwapping 0 (second + 1) old benches.new.items }
 {
     for first in 0..second {
         pair_at(benches, first, second);
@@ -55,6 +55,6 @@ pub fn gather<J: Naming>(benches: &mut Vec<Bench<J>>)
 {
     owners_below(benches);
     for second in 0..benches.len() {
-        meet_before(benches, second);
+        swap_with_earlier(benches, second);
     }
 }

@@ -7,6 +7,7 @@ ghost use Rattle.graph_rule.specs.Values.{GraphValue, Belongs};
 ghost use Rattle.parcel_deques.specs.Parcels.{IsHanded, no_graph, tag_of, tagged};
 
 use graph_rule::{Graph, Seat};
+use list_facts::Listed;
 use std::marker::{Brand, Model, PhantomData};
 
 /// The graph that the parcels of a deque are for. Contracts alone speak of it: a call that has the graph passes `Brand`,
@@ -26,35 +27,8 @@ pub struct Tag {
     pub place: u64,
 }
 
-/// A list of cells.
-#[derive(Drop)]
-pub struct Cells {
-    list: Vec<u32>,
-}
-
-impl Model for Cells {
-    ghost use Rattle.std.specs.Prelude.{ℕ, List};
-
-    ghost Value = { List ℕ };
-
-    ghost view = { λ c. c.list.items };
-}
-
-impl Cells {
-    /// The cells of this list, in its order. Takes no memory.
-    pub fn of(list: Vec<u32>) -> Cells
-        ensures { result ≡ list.items }
-    {
-        Cells { list }
-    }
-
-    /// The cells as a slice.
-    pub fn as_slice(&self) -> &[u32]
-        ensures { result.now ≡ self.now }
-    {
-        self.list.as_slice()
-    }
-}
+/// Cells in their order.
+pub type Cells = Listed<u32>;
 
 /// What contracts see of a parcel: its tag, its cells and the stake of its seat. No value of it is made.
 pub struct Slip {
@@ -113,7 +87,7 @@ impl<J: Naming> Parcel<J> {
         ensures seat { seat.new.view ≡ hand_left 1 stake cells seat.old.view }
         ensures known { IsKnown seat.new.view }
     {
-        let _stake = seat.stake();
+        seat.reveal();
         let child = seat.hand(graph, stake, cells.as_slice());
         Parcel::new(child, cells)
     }

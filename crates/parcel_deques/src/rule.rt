@@ -1,7 +1,7 @@
 //! The rule of a deque, and what each step of it tells. The numbers of a cut are told by ghost members, which a private
 //! function picks.
 ghost use Rattle.std.specs.Prelude.{ℕ};
-ghost use Rattle.parcel_deques.specs.Rule.{DequeHolds, founder, spent, share_kept, share_given, absorbed, IsLoading, IsTaking, Drained};
+ghost use Rattle.parcel_deques.specs.Rule.{DequeHolds, founder, used_up, share_kept, share_given, absorbed, IsLoading, IsTaking, Drained};
 
 use crate::parcel::{Naming, Parcel, Slip};
 use crossbeam_deque::protocol::{Join, Outcome, Protocol, Split};
@@ -23,13 +23,13 @@ pub struct Hand {
 pub struct Ruled;
 
 impl<J: Naming> Protocol<Parcel<J>, Hand> for Ruled {
-    ghost use Rattle.parcel_deques.specs.Rule.{DequeHolds, founder, spent};
+    ghost use Rattle.parcel_deques.specs.Rule.{DequeHolds, founder, used_up};
 
     ghost holds = { DequeHolds };
 
     ghost first = { founder };
 
-    ghost guest = { spent };
+    ghost guest = { used_up };
 }
 
 /// A push.
@@ -82,9 +82,9 @@ impl<M: Marked> Split<Hand> for Cut<M> {
 pub(crate) struct Glue;
 
 impl Join<Hand> for Glue {
-    ghost use Rattle.parcel_deques.specs.Rule.{absorbed, spent};
+    ghost use Rattle.parcel_deques.specs.Rule.{absorbed, used_up};
 
     ghost both = { absorbed };
 
-    ghost spent = { spent };
+    ghost spent = { used_up };
 }

@@ -9,8 +9,9 @@ use Rattle.graph_history.specs.declared.event.Act.TheVariants.{Drew, Saw}
 use Rattle.graph_history.specs.declared.answer.Added.{Added}
 use Rattle.graph_history.specs.declared.answer.Added.TheVariants.{Full}
 use Rattle.graph_history.specs.declared.answer.Draw.{Draw}
-use Rattle.graph_history.specs.Desks.{unpaid_by, IsEntry, Draws, met, spent, added, owed_met, owed_spent, saw_zero, saw, drew_zero, entered_drew, entered_saw, full, added_by, added_cells}
+use Rattle.graph_history.specs.Desks.{unpaid_by, IsEntry, Draws, met, spent, added, owed_met, owed_spent, saw_zero, saw, drew_zero, entered_drew, entered_saw, full, added_cells}
 use Rattle.graph_history.proofs.DeskSteps.{unpaid_by-append}
+use Rattle.graph_history.proofs.Growing.{added_cells-append}
 
 abbrev pub Owes : List Act → Type 0
 Owes acts = (cells : List ℕ) → unpaid_by cells acts ≡ cells ++ added_cells acts
@@ -18,11 +19,6 @@ Owes acts = (cells : List ℕ) → unpaid_by cells acts ≡ cells ++ added_cells
 -- nothing more
 pub nothing_more : (cells : List ℕ) → cells ≡ cells ++ []
 nothing_more cells = sym (append-nil cells)
-
-pub added_cells-append : (xs ys : List Act) → added_cells (xs ++ ys) ≡ added_cells xs ++ added_cells ys
-added_cells-append [] ys = refl
-added_cells-append (x ∷ xs) ys =
-    ap (λ (cells : List ℕ). added_by x ++ cells) (added_cells-append xs ys) ∙ sym (append_assoc (added_by x) (added_cells xs) (added_cells ys))
 
 pub unpaid_on : (old mid new : List ℕ) (xs ys : List Act) → mid ≡ old ++ added_cells xs → new ≡ mid ++ added_cells ys → new ≡ old ++ added_cells (xs ++ ys)
 unpaid_on old mid new xs ys first then =

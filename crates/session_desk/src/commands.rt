@@ -9,7 +9,7 @@ ghost use Rattle.session_desk.specs.Replies.{first, on_look, on_move, added_repl
 ghost use Rattle.session_desk.specs.Sessions.{IsAsked, Replied, IsAnswered};
 
 use crate::reply::Reply;
-use crate::words::{eps, phi, weight};
+use crate::words::{eps_reply, phi_reply, weight_reply};
 use crystal_cartan::Arrow;
 use graph_history::{Added, Desk, Draw, Look};
 use job_text::Command;
@@ -125,7 +125,7 @@ fn weigh<D: Desk>(desk: &D, code: u64) -> Reply
     ensures { IsAnswered (D.standing desk.now) (D.standing desk.now) 0 (asked.Wt code) result }
 {
     let space = desk.space();
-    weight(space, code)
+    weight_reply(space, code)
 }
 
 fn count_raises<D: Desk>(desk: &D, index: u8, code: u64) -> Reply
@@ -134,7 +134,7 @@ fn count_raises<D: Desk>(desk: &D, index: u8, code: u64) -> Reply
     ensures { IsAnswered (D.standing desk.now) (D.standing desk.now) 0 (asked.Eps index code) result }
 {
     let space = desk.space();
-    eps(space, index, code)
+    eps_reply(space, index, code)
 }
 
 fn count_lowers<D: Desk>(desk: &D, index: u8, code: u64) -> Reply
@@ -143,7 +143,7 @@ fn count_lowers<D: Desk>(desk: &D, index: u8, code: u64) -> Reply
     ensures { IsAnswered (D.standing desk.now) (D.standing desk.now) 0 (asked.Phi index code) result }
 {
     let space = desk.space();
-    phi(space, index, code)
+    phi_reply(space, index, code)
 }
 
 fn ask_debts<D: Desk>(desk: &mut D) -> Reply

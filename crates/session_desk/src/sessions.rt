@@ -8,39 +8,11 @@ use crate::scripts::run_script;
 use crystal_streams::NoMemory;
 use graph_history::{Desk, PlainDesk};
 use job_text::{Script, Scripts};
+use list_facts::Listed;
 use std::alloc::Global;
-use std::marker::Model;
 
 /// The replies of one session, in order.
-#[derive(Debug, Drop)]
-pub struct Replies {
-    list: Vec<Reply>,
-}
-
-impl Model for Replies {
-    ghost use Rattle.std.specs.Prelude.{List};
-    ghost use Rattle.session_desk.specs.declared.reply.Reply.{Reply};
-
-    ghost Value = { List Reply };
-
-    ghost view = { λ r. r.list.items };
-}
-
-impl Replies {
-    /// A list of replies.
-    pub fn of(list: Vec<Reply>) -> Replies
-        ensures { result ≡ list.items }
-    {
-        Replies { list }
-    }
-
-    /// The replies.
-    pub fn as_slice(&self) -> &[Reply]
-        ensures { result.now ≡ self.now }
-    {
-        self.list.as_slice()
-    }
-}
+pub type Replies = Listed<Reply>;
 
 /// Runs the scripts one after another on one desk, that of session s, counted from 1, under the caller number s. No
 /// other caller has further events.
@@ -87,5 +59,5 @@ fn run_session(
     let mut list = Vec::with_capacity(alloc, script.len())?;
     desk.call_as(caller);
     run_script(desk, script, &mut list);
-    Ok(Replies { list })
+    Ok(Replies::of(list))
 }

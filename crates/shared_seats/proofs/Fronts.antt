@@ -31,6 +31,10 @@ module _ {E : Type 0} (by : E → ℕ) where
   calls_left h es m l none e =
       calls-append h es m ∙ ap (λ (k : List E). k ++ calls by es m) e ∙ ap (λ (k : List E). l ++ k) none ∙ append-nil l
 
+  -- who did nothing in two lists did nothing in both together
+  pub calls_both : (f g : List E) (n : ℕ) → calls by f n ≡ [] → calls by g n ≡ [] → calls by (f ++ g) n ≡ []
+  calls_both f g n p q = calls-append f g n ∙ ap (λ (l : List E). l ++ calls by g n) p ∙ q
+
   -- between a prefix and a history that have the same calls of a number, there are none
   pub calls_quiet : (f rest h : List E) (n : ℕ) (l : List E) → h ≡ f ++ rest → calls by f n ≡ l → calls by h n ≡ l → calls by rest n ≡ []
   calls_quiet f rest h n l is before after =

@@ -1,29 +1,18 @@
 -- A seat takes in another: the view that is made of both fits into the same history.
-use Rattle.std.proofs.Common.{◌≡◌, ◌≢◌, refl, sym, ap, subst, ◌∙◌, ℕ, zero, suc, ◌+◌, ◌<◌, ◌≤◌, ◌⊎◌, inl, inr, ⊎_elim, Bool, true, false, nat_eq, if◌then◌else◌, List, [], ◌∷◌, ◌++◌, length, set, Contains, append-nil, length-append, arith}
+use Rattle.std.proofs.Common.{◌≡◌, ◌≢◌, refl, sym, ap, subst, ◌∙◌, ℕ, ◌+◌, ◌<◌, ◌≤◌, ◌⊎◌, inl, inr, Bool, true, false, nat_eq, if◌then◌else◌, List, [], ◌∷◌, ◌++◌, length, set, Contains, append-nil, length-append, arith}
 use Rattle.std.specs.Prelude.{nat_lt}
 use Rattle.std.proofs.lemmas.Bool.Decides.{eqb_tells}
 use Rattle.std.proofs.lemmas.Grind.{common_steps}
-use Rattle.std.proofs.lemmas.List.Elements.{Contains-append_cases}
+use Rattle.std.proofs.lemmas.List.Elements.{Contains-append_left, Contains-append_right}
 use mathlib.Core.Option.{some, some-injective}
 use lib.ListN.{get_elem?}
 use Rattle.atomic_table.proofs.Lists.{at_set, set_here, set_else}
+use Rattle.list_facts.proofs.Lists.{each_cons, each_both, within}
 use Rattle.shared_seats.specs.declared.view.View.{View}
 use Rattle.shared_seats.specs.declared.view.Kept.{Kept}
-use Rattle.shared_seats.specs.Seats.{IsPrefix, longer, calls, Role, calling, keeping, spare, Agrees, IsSound, Fits, IsSeated, joined}
+use Rattle.shared_seats.specs.Seats.{IsPrefix, longer, calls, Role, calling, keeping, spare, HasCalls, Agrees, IsSound, Fits, HasLive, IsSeated, went, joined}
 use Rattle.shared_seats.proofs.Fronts.{prefix_self, prefix_on, calls-append}
 use Rattle.shared_seats.proofs.Stakes.{stakes-set, stakes-two}
-use Rattle.shared_seats.proofs.Splitting.{within}
-
--- what holds of each element of two lists
-abbrev Each : {A : Type 0} → (A → Type 0) → List A → Type 0
-Each {A} P xs = (a : A) → Contains xs a → P a
-
-each_both : {A : Type 0} (P : A → Type 0) (xs ys : List A) → Each P xs → Each P ys → Each P (xs ++ ys)
-each_both P xs ys p q a h = ⊎_elim (λ k. p a k) (λ k. q a k) (Contains-append_cases xs ys a h)
-
-each_cons : {A : Type 0} (P : A → Type 0) (x : A) (xs : List A) → P x → Each P xs → Each P (x ∷ xs)
-each_cons P x xs p q a (zero, below, is) = subst P is p
-each_cons P x xs p q a (suc k, below, is) = q a (k, omega arith, is)
 
 module _ {E : Type 0} where
   -- of two prefixes of a list the shorter is a prefix of the longer
@@ -97,8 +86,10 @@ rehomed_here owner id other n r is = by_test (nat_eq (owner n).0 other) refl
 module _ {W E D : Type 0} (whole : ℕ) (by : E → ℕ) where
   agrees_between : (v : View W E D) (g h : List E) → Agrees by v v.front → Agrees by v h → IsPrefix v.front g → IsPrefix g h → Agrees by v g
   agrees_between v g h A B p q = record {
-    mine = calls_between by v.front g h v.number v.calls p q A.mine B.mine;
-    others = λ (m : Kept E) there. calls_between by v.front g h m.number m.calls p q (A.others m there) (B.others m there);
+    own = record {
+      mine = calls_between by v.front g h v.number v.calls p q A.own.mine B.own.mine;
+      kept = λ (m : Kept E) there. calls_between by v.front g h m.number m.calls p q (A.own.kept m there) (B.own.kept m there);
+    };
     none = λ n free. calls_between by v.front g h n [] p q (A.none n free) (B.none n free);
   }
 
@@ -132,7 +123,7 @@ module _ {W E D : Type 0} (whole : ℕ) (by : E → ℕ) where
     pub from_w : IsPrefix w.front both.front
     from_w = fronts.1
 
-    pub to_all : IsPrefix both.front h
+    to_all : IsPrefix both.front h
     to_all = fronts.2
 
     abbrev taken : Kept E
@@ -140,16 +131,18 @@ module _ {W E D : Type 0} (whole : ℕ) (by : E → ℕ) where
 
     both_agrees : (g : List E) → Agrees by v g → Agrees by w g → Agrees by both g
     both_agrees g A B = record {
-      mine = A.mine;
-      others = each_both (λ (m : Kept E). calls by g m.number ≡ m.calls) v.kept (taken ∷ w.kept) A.others
-          (each_cons (λ (m : Kept E). calls by g m.number ≡ m.calls) taken w.kept B.mine B.others);
+      own = record {
+        mine = A.own.mine;
+        kept = each_both (λ (m : Kept E). calls by g m.number ≡ m.calls) v.kept (taken ∷ w.kept) A.own.kept
+            (each_cons (λ (m : Kept E). calls by g m.number ≡ m.calls) taken w.kept B.own.mine B.own.kept);
+      };
       none = A.none;
     }
 
     both_staked : v.stake + w.stake ≤ whole
     both_staked = let two = stakes-two views id other v w at at_other apart in let all = r.staked in omega arith
 
-    pub both_sound : IsSound whole by both
+    both_sound : IsSound whole by both
     both_sound = record {
       live = omega arith;
       staked = both_staked;
@@ -164,7 +157,7 @@ module _ {W E D : Type 0} (whole : ℕ) (by : E → ℕ) where
           (λ f got. prefix_on f w.front both.front (theirs.sound.olds f got) fronts.1)));
     }
 
-    pub here : Fits whole by key owner h id both
+    here : Fits whole by key owner h id both
     here = record {
       sound = both_sound;
       world_is = mine.world_is;
@@ -178,7 +171,7 @@ module _ {W E D : Type 0} (whole : ℕ) (by : E → ℕ) where
       owns_unused = λ n free. rehomed_other r.owner id other n id spare (mine.owns_unused n free) (λ e. apart (sym e));
     }
 
-    pub beside : (j : ℕ) (u : View W E D) → get_elem? views j ≡ some u → j ≢ other → 0 < u.stake → Fits whole by key owner h j u
+    beside : (j : ℕ) (u : View W E D) → get_elem? views j ≡ some u → j ≢ other → 0 < u.stake → Fits whole by key owner h j u
     beside j u there away alive =
         let f = r.fits j u there alive in
         record {
@@ -192,7 +185,7 @@ module _ {W E D : Type 0} (whole : ℕ) (by : E → ℕ) where
         }
 
     -- which live view stands at a place of the new list: the joined one, or another than the two
-    pub which : (j : ℕ) (u : View W E D) → get_elem? merged j ≡ some u → 0 < u.stake
+    which : (j : ℕ) (u : View W E D) → get_elem? merged j ≡ some u → 0 < u.stake
         → ((j ≡ id) × (both ≡ u)) ⊎ ((j ≢ id) × (j ≢ other) × (get_elem? views j ≡ some u))
     which j u there alive =
         elim (at_set first other j spent u there) [
@@ -204,18 +197,20 @@ module _ {W E D : Type 0} (whole : ℕ) (by : E → ℕ) where
               ]
         ]
 
-    all_fit : (j : ℕ) (u : View W E D) → get_elem? merged j ≡ some u → 0 < u.stake → Fits whole by key owner h j u
-    all_fit j u there alive =
+    -- what holds of the joined one and of the other live views holds of each live view
+    pub each : (P : ℕ → View W E D → Type 0) → P id both → ((j : ℕ) (u : View W E D) → get_elem? views j ≡ some u → j ≢ other → 0 < u.stake → P j u)
+        → (j : ℕ) (u : View W E D) → get_elem? merged j ≡ some u → 0 < u.stake → P j u
+    each P p others j u there alive =
         elim (which j u there alive) [
-          | inl own ↦ subst (λ (k : ℕ). Fits whole by key owner h k u) (sym own.0) (subst (λ (x : View W E D). Fits whole by key owner h id x) own.1 here)
-          | inr else_one ↦ beside j u else_one.2 else_one.1 alive
+          | inl mine_too ↦ subst (λ (k : ℕ). P k u) (sym mine_too.0) (subst (λ (x : View W E D). P id x) mine_too.1 p)
+          | inr else_one ↦ others j u else_one.2 else_one.1 alive
         ]
 
     -- the places of the views
-    pub both_at : get_elem? merged id ≡ some both
+    both_at : get_elem? merged id ≡ some both
     both_at = set_else first other id spent (λ e. apart (sym e)) ∙ set_here views id both (within views v id at)
 
-    pub else_at : (j : ℕ) (u : View W E D) → get_elem? views j ≡ some u → j ≢ id → j ≢ other → get_elem? merged j ≡ some u
+    else_at : (j : ℕ) (u : View W E D) → get_elem? views j ≡ some u → j ≢ id → j ≢ other → get_elem? merged j ≡ some u
     else_at j u there p q = set_else first other j spent q ∙ set_else views id j both p ∙ there
 
     pub first_at : get_elem? first other ≡ some w
@@ -224,34 +219,52 @@ module _ {W E D : Type 0} (whole : ℕ) (by : E → ℕ) where
     own_view : (j : ℕ) (u x : View W E D) → get_elem? views j ≡ some u → (i : ℕ) → get_elem? views i ≡ some x → j ≡ i → u ≡ x
     own_view j u x there i g e = some-injective u x (sym there ∙ ap (λ (k : ℕ). get_elem? views k) e ∙ g)
 
-    pub same_first : (u : View W E D) → get_elem? views id ≡ some u → u ≡ v
-    same_first u there = own_view id u v there id at refl
-
-    pub same_second : (u : View W E D) → get_elem? views other ≡ some u → u ≡ w
-    same_second u there = own_view other u w there other at_other refl
-
-    merged_longest : (j : ℕ) × (u : View W E D) × (get_elem? merged j ≡ some u) × (0 < u.stake) × (u.front ≡ h)
-    merged_longest = by_place r.longest
-      where
-        this_one : (v.front ≡ h) ⊎ (w.front ≡ h) → (j : ℕ) × (u : View W E D) × (get_elem? merged j ≡ some u) × (0 < u.stake) × (u.front ≡ h)
-        this_one one = (id, both, both_at, omega arith, longer_whole v.front w.front h mine.front theirs.front one)
-
-        by_place : (j : ℕ) × (u : View W E D) × (get_elem? views j ≡ some u) × (0 < u.stake) × (u.front ≡ h)
-            → (j : ℕ) × (u : View W E D) × (get_elem? merged j ≡ some u) × (0 < u.stake) × (u.front ≡ h)
-        by_place (j, u, there, alive, is) =
-            elim (eqb_tells j id) [
-              | inl own ↦ this_one (inl (ap (λ (x : View W E D). x.front) (sym (own_view j u v there id at own.1)) ∙ is))
-              | inr away ↦
-                  elim (eqb_tells j other) [
-                    | inl gone ↦ this_one (inr (ap (λ (x : View W E D). x.front) (sym (own_view j u w there other at_other gone.1)) ∙ is))
-                    | inr else_one ↦ (j, u, else_at j u there away.1 else_one.1, alive, is)
-                  ]
-            ]
+    -- where a live view was so, one is so yet: the joined one is, if one of the two was
+    pub still : (P : View W E D → Type 0) → (P v → P both) → (P w → P both) → HasLive views P → HasLive merged P
+    still P keep take (j, u, there, alive, has) =
+        elim (eqb_tells j id) [
+          | inl first_one ↦ (id, both, both_at, omega arith, keep (subst P (own_view j u v there id at first_one.1) has))
+          | inr away ↦
+              elim (eqb_tells j other) [
+                | inl gone ↦ (id, both, both_at, omega arith, take (subst P (own_view j u w there other at_other gone.1) has))
+                | inr else_one ↦ (j, u, else_at j u there away.1 else_one.1, alive, has)
+              ]
+        ]
 
     pub joins_up : IsSeated whole by key merged h
     joins_up = record {
       owner = owner;
       staked = let a = stakes-set first other w spent first_at in let b = stakes-set views id v both at in let c = r.staked in omega arith;
-      longest = merged_longest;
-      fits = all_fit;
+      longest = still (λ (u : View W E D). u.front ≡ h)
+          (λ is. longer_whole v.front w.front h mine.front theirs.front (inl is)) (λ is. longer_whole v.front w.front h mine.front theirs.front (inr is)) r.longest;
+      fits = each (Fits whole by key owner h) here beside;
     }
+
+-- what is known once the seat goes on after a join: its front begins with both fronts, and has the calls of both
+module _ {W E D : Type 0} {whole : ℕ} {by : E → ℕ} (mix : D → D → D) (v u w : View W E D) (h : List E) (dues : D) (is : w ≡ went (joined mix v u) h [] dues) (sound : IsSound whole by w) where
+  old_front : (f : List E) → Contains (v.olds ++ v.front ∷ u.front ∷ u.olds) f → IsPrefix f w.front
+  old_front f has = sound.olds f (subst (λ (x : View W E D). Contains x.olds f) (sym is) has)
+
+  pub joined_fronts : IsPrefix v.front w.front × IsPrefix u.front w.front
+  joined_fronts = (
+    old_front v.front (Contains-append_right v.olds (v.front ∷ u.front ∷ u.olds) v.front (0, omega arith, refl)),
+    old_front u.front (Contains-append_right v.olds (v.front ∷ u.front ∷ u.olds) u.front (1, omega arith, refl)),
+  )
+
+  abbrev joined_one : Kept E
+  joined_one = record { number = u.number; calls = u.calls }
+
+  kept_calls : (m : Kept E) → Contains (v.kept ++ joined_one ∷ u.kept) m → calls by w.front m.number ≡ m.calls
+  kept_calls m has = sound.agrees.own.kept m (subst (λ (x : View W E D). Contains x.kept m) (sym is) has)
+
+  pub joined_calls : HasCalls by v w.front × HasCalls by u w.front
+  joined_calls = (
+    record {
+      mine = subst (λ (x : View W E D). calls by w.front x.number ≡ x.calls) is sound.agrees.own.mine ∙ append-nil v.calls;
+      kept = λ m has. kept_calls m (Contains-append_left v.kept (joined_one ∷ u.kept) m has);
+    },
+    record {
+      mine = kept_calls joined_one (Contains-append_right v.kept (joined_one ∷ u.kept) joined_one (0, omega arith, refl));
+      kept = λ m has. kept_calls m (Contains-append_right v.kept (joined_one ∷ u.kept) m (Contains-append_right (joined_one ∷ []) u.kept m has));
+    },
+  )

@@ -3,10 +3,10 @@ use Rattle.std.proofs.Common.{◌≡◌, refl, sym, subst, ℕ, zero, suc, ◌<�
 use Rattle.std.proofs.lemmas.Grind.{common_steps}
 use mathlib.Core.Option.{some, some-injective, some-ne-none}
 use lib.ListN.{get_elem?}
+use Rattle.list_facts.proofs.Lists.{nothing_in}
 use Rattle.shared_seats.specs.declared.view.View.{View}
 use Rattle.shared_seats.specs.declared.view.Kept.{Kept}
 use Rattle.shared_seats.specs.Seats.{Role, calling, spare, Agrees, IsSound, Fits, IsSeated, first_view}
-use Rattle.shared_seats.proofs.Splitting.{nowhere}
 
 -- who has a number at first
 abbrev first_owner : ℕ → ℕ × Role
@@ -16,29 +16,31 @@ spare_above : (n : ℕ) → 1 ≤ n → first_owner n ≡ (0, spare)
 spare_above zero low = absurd (omega arith)
 spare_above (suc n) low = grind (arith, common_steps)
 
-module _ {W E D : Type 0} (whole : ℕ) (by : E → ℕ) (key : W) (own : D) (some_stake : 0 < whole) where
+module _ {W E D : Type 0} (whole : ℕ) (by : E → ℕ) (key : W) (dues : D) (some_stake : 0 < whole) where
   abbrev one : View W E D
-  one = first_view whole own key
+  one = first_view whole dues key
 
   agrees : Agrees by one []
-  agrees = record { mine = refl; others = λ (m : Kept E) there. absurd (nowhere m there); none = λ n free. refl }
+  agrees = record { own = record { mine = refl; kept = λ (m : Kept E) there. absurd (nothing_in m there) }; none = λ n free. refl }
 
   pub first_sound : IsSound whole by one
-  first_sound = record { live = some_stake; staked = omega arith; numbered = omega arith; agrees = agrees; olds = λ f there. absurd (nowhere f there) }
+  first_sound = record { live = some_stake; staked = omega arith; numbered = omega arith; agrees = agrees; olds = λ f there. absurd (nothing_in f there) }
 
-  fits : (id : ℕ) (v : View W E D) → get_elem? (one ∷ []) id ≡ some v → 0 < v.stake → Fits whole by key first_owner [] id v
-  fits zero v at live =
-      subst (λ (u : View W E D). Fits whole by key first_owner [] 0 u) (some-injective one v at)
-      (record {
-        sound = first_sound;
-        world_is = refl;
-        front = ([], refl);
-        agrees = agrees;
-        owns = refl;
-        owns_kept = λ (m : Kept E) there. absurd (nowhere m there);
-        owns_unused = λ n free. spare_above n free.0;
-      })
-  fits (suc id) v at live = absurd (some-ne-none v (sym at))
+  -- what holds of the first view holds of each
+  pub each : (P : ℕ → View W E D → Type 0) → P 0 one → (id : ℕ) (v : View W E D) → get_elem? (one ∷ []) id ≡ some v → 0 < v.stake → P id v
+  each P p zero v at live = subst (P 0) (some-injective one v at) p
+  each P p (suc id) v at live = absurd (some-ne-none v (sym at))
+
+  first_fits : Fits whole by key first_owner [] 0 one
+  first_fits = record {
+    sound = first_sound;
+    world_is = refl;
+    front = ([], refl);
+    agrees = agrees;
+    owns = refl;
+    owns_kept = λ (m : Kept E) there. absurd (nothing_in m there);
+    owns_unused = λ n free. spare_above n free.0;
+  }
 
   pub opens : IsSeated whole by key (one ∷ []) []
-  opens = record { owner = first_owner; staked = omega arith; longest = (0, one, refl, some_stake, refl); fits = fits }
+  opens = record { owner = first_owner; staked = omega arith; longest = (0, one, refl, some_stake, refl); fits = each (Fits whole by key first_owner []) first_fits }

@@ -1,31 +1,16 @@
 -- A seat is split: both views fit into the same history.
-use Rattle.std.proofs.Common.{◌≡◌, ◌≢◌, refl, sym, ap, subst, ◌∙◌, ℕ, zero, suc, ◌+◌, ◌<◌, ◌≤◌, ◌&&◌, ◌⊎◌, inl, inr, ⊎_elim, Bool, true, false, nat_eq, if◌then◌else◌, List, [], ◌∷◌, ◌++◌, length, set, Contains, arith}
+use Rattle.std.proofs.Common.{◌≡◌, ◌≢◌, refl, sym, ap, subst, ◌∙◌, ℕ, ◌+◌, ◌<◌, ◌≤◌, ◌&&◌, ◌⊎◌, inl, inr, ⊎_elim, Bool, true, false, nat_eq, if◌then◌else◌, List, [], ◌∷◌, ◌++◌, length, set, arith}
 use Rattle.std.specs.Prelude.{nat_le, nat_lt}
 use Rattle.std.proofs.lemmas.Bool.Decides.{eqb_tells}
 use Rattle.std.proofs.lemmas.Grind.{common_steps}
-use mathlib.Core.Option.{some, some-injective, some-ne-none}
+use mathlib.Core.Option.{some, some-injective}
 use lib.ListN.{get_elem?}
 use Rattle.atomic_table.proofs.Lists.{at_set, set_here, set_else, at_longer, at_last}
+use Rattle.list_facts.proofs.Lists.{nothing_in, within, at_end}
 use Rattle.shared_seats.specs.declared.view.View.{View}
 use Rattle.shared_seats.specs.declared.view.Kept.{Kept}
-use Rattle.shared_seats.specs.Seats.{Role, calling, keeping, spare, IsSound, Fits, IsSeated, cut_left, cut_right}
+use Rattle.shared_seats.specs.Seats.{Role, calling, keeping, spare, Agrees, IsSound, Fits, HasLive, IsSeated, cut_left, cut_right}
 use Rattle.shared_seats.proofs.Stakes.{stakes-set, stakes-push}
-
--- nothing stands in the empty list
-pub nowhere : {A : Type 0} (a : A) → Contains [] a → ⊥
-nowhere a h = let k = h.1 in omega arith
-
--- a list with one more element
-pub at_end : {A : Type 0} (l : List A) (a b : A) (j : ℕ) → get_elem? (l ++ a ∷ []) j ≡ some b → (get_elem? l j ≡ some b) ⊎ ((j ≡ length l) × (a ≡ b))
-at_end [] a b zero e = inr (refl, some-injective a b e)
-at_end [] a b (suc j) e = absurd (some-ne-none b (sym e))
-at_end (x ∷ xs) a b zero e = inl e
-at_end (x ∷ xs) a b (suc j) e = ⊎_elim (λ h. inl h) (λ h. inr (omega (arith, h.0), h.1)) (at_end xs a b j e)
-
-pub within : {A : Type 0} (l : List A) (a : A) (j : ℕ) → get_elem? l j ≡ some a → j < length l
-within [] a j e = absurd (some-ne-none a (sym e))
-within (x ∷ xs) a zero e = omega arith
-within (x ∷ xs) a (suc j) e = let rest = within xs a j e in omega arith
 
 -- who has a number once the new seat has so many from the first on
 abbrev pub in_range : ℕ → ℕ → ℕ → Bool
@@ -63,31 +48,40 @@ other_seat : (id j : ℕ) (r : Role) → j ≢ id → Apart (id, spare) (j, r)
 other_seat id j r other e = other (sym (ap (λ (p : ℕ × Role). p.0) e))
 
 module _ {W E D : Type 0} (whole : ℕ) (by : E → ℕ) where
+  -- the calls of the two views
+  agrees_left : (dues : D) (count stake : ℕ) (v : View W E D) (g : List E) → count ≤ v.left → Agrees by v g → Agrees by (cut_left dues count stake v) g
+  agrees_left dues count stake v g numbers a = record {
+    own = record { mine = a.own.mine; kept = a.own.kept };
+    none = λ n u. a.none n (let low = u.0 in omega arith, let high = u.1 in omega arith);
+  }
+
+  agrees_right : (dues : D) (count stake : ℕ) (v : View W E D) (g : List E) → 1 ≤ count → count ≤ v.left → Agrees by v g → Agrees by (cut_right dues count stake v) g
+  agrees_right dues count stake v g some_numbers numbers a = record {
+    own = record { mine = a.none v.next (omega arith, omega arith); kept = λ (m : Kept E) h. absurd (nothing_in m h) };
+    none = λ n u. a.none n (let low = u.0 in omega arith, let high = u.1 in omega arith);
+  }
+
   -- the two views by themselves
-  pub sound_left : (count stake : ℕ) (v : View W E D) → IsSound whole by v → count ≤ v.left → stake < v.stake → IsSound whole by (cut_left count stake v)
-  sound_left count stake v K numbers less = record {
+  pub sound_left : (dues : D) (count stake : ℕ) (v : View W E D) → IsSound whole by v → count ≤ v.left → stake < v.stake → IsSound whole by (cut_left dues count stake v)
+  sound_left dues count stake v K numbers less = record {
     live = omega arith;
     staked = let most = K.staked in omega arith;
     numbered = let most = K.numbered in omega arith;
-    agrees = record { mine = K.agrees.mine; others = K.agrees.others; none = λ n u. K.agrees.none n (let low = u.0 in omega arith, let high = u.1 in omega arith) };
+    agrees = agrees_left dues count stake v v.front numbers K.agrees;
     olds = K.olds;
   }
 
-  pub sound_right : (own : D) (count stake : ℕ) (v : View W E D) → IsSound whole by v → 1 ≤ count → count ≤ v.left → 1 ≤ stake → stake < v.stake → IsSound whole by (cut_right own count stake v)
-  sound_right own count stake v K some_numbers numbers some_stake less = record {
+  pub sound_right : (dues : D) (count stake : ℕ) (v : View W E D) → IsSound whole by v → 1 ≤ count → count ≤ v.left → 1 ≤ stake → stake < v.stake → IsSound whole by (cut_right dues count stake v)
+  sound_right dues count stake v K some_numbers numbers some_stake less = record {
     live = omega arith;
     staked = let most = K.staked in omega arith;
     numbered = let most = K.numbered in omega arith;
-    agrees = record {
-      mine = K.agrees.none v.next (omega arith, omega arith);
-      others = λ (m : Kept E) h. absurd (nowhere m h);
-      none = λ n u. K.agrees.none n (let low = u.0 in omega arith, let high = u.1 in omega arith);
-    };
-    olds = λ f h. absurd (nowhere f h);
+    agrees = agrees_right dues count stake v v.front some_numbers numbers K.agrees;
+    olds = λ f h. absurd (nothing_in f h);
   }
 
   module _ (key : W) (views : List (View W E D)) (h : List E) (r : IsSeated whole by key views h) (id : ℕ) (v : View W E D) (at : get_elem? views id ≡ some v)
-      (own : D) (count stake : ℕ) (some_numbers : 1 ≤ count) (numbers : count ≤ v.left) (some_stake : 1 ≤ stake) (less : stake < v.stake) where
+      (parent child : D) (count stake : ℕ) (some_numbers : 1 ≤ count) (numbers : count ≤ v.left) (some_stake : 1 ≤ stake) (less : stake < v.stake) where
     live : 0 < v.stake
     live = omega arith
 
@@ -95,10 +89,10 @@ module _ {W E D : Type 0} (whole : ℕ) (by : E → ℕ) where
     old_fits = r.fits id v at live
 
     abbrev pub left : View W E D
-    left = cut_left count stake v
+    left = cut_left parent count stake v
 
     abbrev pub right : View W E D
-    right = cut_right own count stake v
+    right = cut_right child count stake v
 
     abbrev pub cut_views : List (View W E D)
     cut_views = set views id left ++ right ∷ []
@@ -110,13 +104,13 @@ module _ {W E D : Type 0} (whole : ℕ) (by : E → ℕ) where
     owner = owner_cut r.owner v.next count new
 
     -- the places of the views
-    pub left_at : get_elem? cut_views id ≡ some left
+    left_at : get_elem? cut_views id ≡ some left
     left_at = at_longer (set views id left) (right ∷ []) id left (set_here views id left (within views v id at))
 
-    pub right_at : get_elem? cut_views new ≡ some right
+    right_at : get_elem? cut_views new ≡ some right
     right_at = at_last (set views id left) right new refl
 
-    pub else_at : (j : ℕ) (u : View W E D) → get_elem? views j ≡ some u → j ≢ id → get_elem? cut_views j ≡ some u
+    else_at : (j : ℕ) (u : View W E D) → get_elem? views j ≡ some u → j ≢ id → get_elem? cut_views j ≡ some u
     else_at j u there other = at_longer (set views id left) (right ∷ []) j u (set_else views id j left other ∙ there)
 
     same_view : (u : View W E D) → get_elem? views id ≡ some u → u ≡ v
@@ -132,16 +126,12 @@ module _ {W E D : Type 0} (whole : ℕ) (by : E → ℕ) where
             absurd (other (sym (old_fits.owns_unused n (ends.0, let high = ends.1 in omega arith)) ∙ is))
         by_test false range = cut_else r.owner v.next count new n range ∙ is
 
-    pub here : Fits whole by key owner h id left
+    here : Fits whole by key owner h id left
     here = record {
-      sound = sound_left count stake v old_fits.sound numbers less;
+      sound = sound_left parent count stake v old_fits.sound numbers less;
       world_is = old_fits.world_is;
       front = old_fits.front;
-      agrees = record {
-        mine = old_fits.agrees.mine;
-        others = old_fits.agrees.others;
-        none = λ n u. old_fits.agrees.none n (let low = u.0 in omega arith, let high = u.1 in omega arith);
-      };
+      agrees = agrees_left parent count stake v h numbers old_fits.agrees;
       owns = untouched v.number (id, calling) old_fits.owns (other_role id calling not_calling);
       owns_kept = λ (m : Kept E) there. untouched m.number (id, keeping) (old_fits.owns_kept m there) (other_role id keeping not_keeping);
       owns_unused = λ n u.
@@ -151,22 +141,18 @@ module _ {W E D : Type 0} (whole : ℕ) (by : E → ℕ) where
         out : (n : ℕ) → v.next + count ≤ n → in_range v.next count n ≡ false
         out n low = grind (arith, common_steps)
 
-    child : Fits whole by key owner h new right
-    child = record {
-      sound = sound_right own count stake v old_fits.sound some_numbers numbers some_stake less;
+    new_fits : Fits whole by key owner h new right
+    new_fits = record {
+      sound = sound_right child count stake v old_fits.sound some_numbers numbers some_stake less;
       world_is = old_fits.world_is;
       front = old_fits.front;
-      agrees = record {
-        mine = old_fits.agrees.none v.next (omega arith, omega arith);
-        others = λ (m : Kept E) there. absurd (nowhere m there);
-        none = λ n u. old_fits.agrees.none n (let low = u.0 in omega arith, let high = u.1 in omega arith);
-      };
+      agrees = agrees_right child count stake v h some_numbers numbers old_fits.agrees;
       owns = cut_first r.owner v.next count new some_numbers;
-      owns_kept = λ (m : Kept E) there. absurd (nowhere m there);
+      owns_kept = λ (m : Kept E) there. absurd (nothing_in m there);
       owns_unused = λ n u. cut_others r.owner v.next count new n (let low = u.0 in omega arith) (let high = u.1 in omega arith);
     }
 
-    pub beside : (j : ℕ) (u : View W E D) → get_elem? views j ≡ some u → j ≢ id → 0 < u.stake → Fits whole by key owner h j u
+    beside : (j : ℕ) (u : View W E D) → get_elem? views j ≡ some u → j ≢ id → 0 < u.stake → Fits whole by key owner h j u
     beside j u there other alive =
         let f = r.fits j u there alive in
         record {
@@ -180,7 +166,7 @@ module _ {W E D : Type 0} (whole : ℕ) (by : E → ℕ) where
         }
 
     -- who stands at a place of the new list: the left one, another, or the right one
-    pub which : (j : ℕ) (u : View W E D) → get_elem? cut_views j ≡ some u
+    which : (j : ℕ) (u : View W E D) → get_elem? cut_views j ≡ some u
         → ((j ≡ id) × (left ≡ u)) ⊎ (((j ≢ id) × (get_elem? views j ≡ some u)) ⊎ ((j ≡ new) × (right ≡ u)))
     which j u there =
         elim (at_end (set views id left) right u j there) [
@@ -188,38 +174,35 @@ module _ {W E D : Type 0} (whole : ℕ) (by : E → ℕ) where
           | inr last ↦ inr (inr last)
         ]
 
-    all_fit : (j : ℕ) (u : View W E D) → get_elem? cut_views j ≡ some u → 0 < u.stake → Fits whole by key owner h j u
-    all_fit j u there alive =
+    -- what holds of the two and of the other live views holds of each live view
+    pub each : (P : ℕ → View W E D → Type 0) → P id left → P new right → ((j : ℕ) (u : View W E D) → get_elem? views j ≡ some u → j ≢ id → 0 < u.stake → P j u)
+        → (j : ℕ) (u : View W E D) → get_elem? cut_views j ≡ some u → 0 < u.stake → P j u
+    each P p q others j u there alive =
         elim (which j u there) [
-          | inl mine ↦ subst (λ (k : ℕ). Fits whole by key owner h k u) (sym mine.0) (subst (λ (x : View W E D). Fits whole by key owner h id x) mine.1 here)
+          | inl mine ↦ subst (λ (k : ℕ). P k u) (sym mine.0) (subst (λ (x : View W E D). P id x) mine.1 p)
           | inr rest ↦
               elim rest [
-                | inl other ↦ beside j u other.1 other.0 alive
-                | inr last ↦ subst (λ (k : ℕ). Fits whole by key owner h k u) (sym last.0) (subst (λ (x : View W E D). Fits whole by key owner h new x) last.1 child)
+                | inl other ↦ others j u other.1 other.0 alive
+                | inr last ↦ subst (λ (k : ℕ). P k u) (sym last.0) (subst (λ (x : View W E D). P new x) last.1 q)
               ]
         ]
 
-    cut_longest : (j : ℕ) × (u : View W E D) × (get_elem? cut_views j ≡ some u) × (0 < u.stake) × (u.front ≡ h)
-    cut_longest = by_place r.longest
+    -- where a live view was so, one is so yet: of the two at least one is, if the old one was
+    pub still : (P : View W E D → Type 0) → (P v → P left ⊎ P right) → HasLive views P → HasLive cut_views P
+    still P keep (j, u, there, alive, has) =
+        elim (eqb_tells j id) [
+          | inl mine ↦ one_of (keep (subst P (same_view u (subst (λ (k : ℕ). get_elem? views k ≡ some u) mine.1 there)) has))
+          | inr other ↦ (j, u, else_at j u there other.1, alive, has)
+        ]
       where
-        by_place : (j : ℕ) × (u : View W E D) × (get_elem? views j ≡ some u) × (0 < u.stake) × (u.front ≡ h)
-            → (j : ℕ) × (u : View W E D) × (get_elem? cut_views j ≡ some u) × (0 < u.stake) × (u.front ≡ h)
-        by_place (j, u, there, alive, is) =
-            elim (eqb_tells j id) [
-              | inl mine ↦ (
-                id,
-                left,
-                left_at,
-                omega arith,
-                ap (λ (x : View W E D). x.front) (sym (same_view u (subst (λ (k : ℕ). get_elem? views k ≡ some u) mine.1 there))) ∙ is,
-              )
-              | inr other ↦ (j, u, else_at j u there other.1, alive, is)
-            ]
+        one_of : P left ⊎ P right → HasLive cut_views P
+        one_of (inl has_left) = (id, left, left_at, omega arith, has_left)
+        one_of (inr has_right) = (new, right, right_at, omega arith, has_right)
 
     pub cuts : IsSeated whole by key cut_views h
     cuts = record {
       owner = owner;
       staked = let a = stakes-push (set views id left) right in let b = stakes-set views id v left at in let c = r.staked in omega arith;
-      longest = cut_longest;
-      fits = all_fit;
+      longest = still (λ (u : View W E D). u.front ≡ h) (λ is. inl is) r.longest;
+      fits = each (Fits whole by key owner h) here new_fits beside;
     }

@@ -6,12 +6,6 @@ use lib.ListN.{get_elem?}
 use Rattle.shared_seats.specs.declared.view.View.{View}
 use Rattle.shared_seats.specs.Seats.{stakes}
 
--- the list of views after a change of one
-pub at_here : {A : Type 0} (views : List A) (id : ℕ) (v w : A) → get_elem? views id ≡ some v → get_elem? (set views id w) id ≡ some w
-at_here [] id v w at = absurd (some-ne-none v (sym at))
-at_here (u ∷ us) zero v w at = refl
-at_here (u ∷ us) (suc id) v w at = at_here us id v w at
-
 module _ {W E D : Type 0} where
   pub stakes-set : (views : List (View W E D)) (id : ℕ) (v w : View W E D) → get_elem? views id ≡ some v → stakes (set views id w) + v.stake ≡ stakes views + w.stake
   stakes-set [] id v w at = absurd (some-ne-none v (sym at))

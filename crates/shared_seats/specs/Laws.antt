@@ -7,7 +7,7 @@ use Rattle.shared_seats.specs.Seats.{calls, IsSeated, first_view, went, cut_left
 
 -- the first seat of a table knows the empty history
 abbrev pub SeatsOpen : (W E D : Type 0) → Type 0
-SeatsOpen W E D = (whole : ℕ) (by : E → ℕ) (key : W) (own : D) → 0 < whole → IsSeated {D = D} whole by key (first_view whole own key ∷ []) []
+SeatsOpen W E D = (whole : ℕ) (by : E → ℕ) (key : W) (dues : D) → 0 < whole → IsSeated {D = D} whole by key (first_view whole dues key ∷ []) []
 
 -- who has the whole stake is the only live seat, and has seen the whole history
 abbrev pub WholeIsAlone : (W E D : Type 0) → Type 0
@@ -21,16 +21,16 @@ abbrev pub StepsKeep : (W E D : Type 0) → Type 0
 StepsKeep W E D =
     (whole : ℕ) (by : E → ℕ) (key : W) (views : List (View W E D)) (h : List E) → IsSeated whole by key views h →
     (id : ℕ) (v : View W E D) → get_elem? views id ≡ some v → 0 < v.stake →
-    (es : List E) (own : D) → calls by es v.number ≡ es → ((m : ℕ) → v.number ≢ m → calls by es m ≡ []) →
-    IsSeated whole by key (set views id (went v h es own)) (h ++ es)
+    (es : List E) (dues : D) → calls by es v.number ≡ es → ((m : ℕ) → v.number ≢ m → calls by es m ≡ []) →
+    IsSeated whole by key (set views id (went v h es dues)) (h ++ es)
 
--- a seat gives numbers and a part of its stake to a new one
+-- a seat gives numbers and a part of its stake to a new one, and each has what is said of what was begun
 abbrev pub SplitsKeep : (W E D : Type 0) → Type 0
 SplitsKeep W E D =
     (whole : ℕ) (by : E → ℕ) (key : W) (views : List (View W E D)) (h : List E) → IsSeated whole by key views h →
     (id : ℕ) (v : View W E D) → get_elem? views id ≡ some v →
-    (own : D) (count stake : ℕ) → 1 ≤ count → count ≤ v.left → 1 ≤ stake → stake < v.stake →
-    IsSeated whole by key (set views id (cut_left count stake v) ++ cut_right own count stake v ∷ []) h
+    (parent child : D) (count stake : ℕ) → 1 ≤ count → count ≤ v.left → 1 ≤ stake → stake < v.stake →
+    IsSeated whole by key (set views id (cut_left parent count stake v) ++ cut_right child count stake v ∷ []) h
 
 -- a live seat takes in another; of this one a view without a stake is left
 abbrev pub JoinsKeep : (W E D : Type 0) → Type 0

@@ -1,6 +1,6 @@
 -- What the seats of a shared table know together: stakes, numbers, fronts and joins. Nothing here knows what the table is
--- of. A world W is what the table was made for, an event E is what a caller did, and D is what a seat has begun; `by` tells
--- whose event it is.
+-- of. A world W is what the table was made for, an event E is what a caller did, and D is the dues of a seat, what it has
+-- begun; `by` tells whose event it is.
 use Rattle.std.specs.Prelude.{ℕ, ◌+◌, ◌-◌, ◌^◌, ◌<◌, ◌≤◌, ◌≡◌, ◌==◌, nat_lt, if◌then◌else◌, List, [], ◌∷◌, ◌++◌, length, filter, Contains}
 use mathlib.Core.Option.{some}
 use lib.ListN.{get_elem?}
@@ -27,11 +27,14 @@ pub data Role : Type 0 where
   calling keeping spare : Role
 
 module _ {W E D : Type 0} where
-  -- the calls of the view's number, and of each number that it keeps, are in this history just those that the view has, and
-  -- nobody has called under an unused number
-  pub record Agrees (by : E → ℕ) (v : View W E D) (h : List E) : Type 0 where
+  -- the calls of the view's number, and of each number that it keeps, are in this history just those that the view has
+  pub record HasCalls (by : E → ℕ) (v : View W E D) (h : List E) : Type 0 where
     pub mine : calls by h v.number ≡ v.calls
-    pub others : (m : Kept E) → Contains v.kept m → calls by h m.number ≡ m.calls
+    pub kept : (m : Kept E) → Contains v.kept m → calls by h m.number ≡ m.calls
+
+  -- the same, and nobody has called under an unused number
+  pub record Agrees (by : E → ℕ) (v : View W E D) (h : List E) : Type 0 where
+    pub own : HasCalls by v h
     pub none : (n : ℕ) → IsUnused v n → calls by h n ≡ []
 
   -- what every seat that was not joined away knows, from its own front alone; all seats together have the stake `whole`
@@ -58,30 +61,35 @@ module _ {W E D : Type 0} where
   stakes [] = 0
   stakes (v ∷ vs) = v.stake + stakes vs
 
+  -- some live view is so
+  abbrev pub HasLive : List (View W E D) → (View W E D → Type 0) → Type 0
+  HasLive views P = (id : ℕ) × (v : View W E D) × (get_elem? views id ≡ some v) × (0 < v.stake) × P v
+
   -- the seats know one history together: the stakes add up to the whole, some live view's front is this history, and every
   -- other live view fits into it
   pub record IsSeated (whole : ℕ) (by : E → ℕ) (world : W) (views : List (View W E D)) (h : List E) : Type 0 where
     pub owner : ℕ → ℕ × Role
     pub staked : stakes views ≡ whole
-    pub longest : (id : ℕ) × (v : View W E D) × (get_elem? views id ≡ some v) × (0 < v.stake) × (v.front ≡ h)
+    pub longest : HasLive views (λ v. v.front ≡ h)
     pub fits : (id : ℕ) (v : View W E D) → get_elem? views id ≡ some v → 0 < v.stake → Fits whole by world owner h id v
 
   -- the view after own events at the end of the history h
   abbrev pub went : View W E D → List E → List E → D → View W E D
-  went v h es own = record v { calls = v.calls ++ es; front = h ++ es; own = own }
+  went v h es dues = record v { calls = v.calls ++ es; front = h ++ es; dues = dues }
 
   -- the first seat of a table: number 0, all other numbers to give, the whole stake
   abbrev pub first_view : ℕ → D → W → View W E D
-  first_view whole own w = record { world = w; number = 0; calls = []; kept = []; next = 1; left = 2 ^ 32 - 1; stake = whole; front = []; olds = []; own = own }
+  first_view whole dues w = record { world = w; number = 0; calls = []; kept = []; next = 1; left = 2 ^ 32 - 1; stake = whole; front = []; olds = []; dues = dues }
 
-  -- a seat is split: the child takes the least unused numbers, and calls under the first of them
-  abbrev pub cut_left : ℕ → ℕ → View W E D → View W E D
-  cut_left count stake v = record v { next = v.next + count; left = v.left - count; stake = v.stake - stake }
+  -- a seat is split: the child takes the least unused numbers, and calls under the first of them. Each has its part of what
+  -- was begun
+  abbrev pub cut_left : D → ℕ → ℕ → View W E D → View W E D
+  cut_left dues count stake v = record v { next = v.next + count; left = v.left - count; stake = v.stake - stake; dues = dues }
 
   abbrev pub cut_right : D → ℕ → ℕ → View W E D → View W E D
-  cut_right own count stake v = record { world = v.world; number = v.next; calls = []; kept = []; next = v.next + 1; left = count - 1; stake = stake; front = v.front; olds = []; own = own }
+  cut_right dues count stake v = record { world = v.world; number = v.next; calls = []; kept = []; next = v.next + 1; left = count - 1; stake = stake; front = v.front; olds = []; dues = dues }
 
   -- a seat joins another: its number is kept with its calls, and what it has is added; both fronts become olds, and the
   -- longer is the front
   abbrev pub joined : (D → D → D) → View W E D → View W E D → View W E D
-  joined mix v w = record v { kept = v.kept ++ record { number = w.number; calls = w.calls } ∷ w.kept; stake = v.stake + w.stake; front = longer v.front w.front; olds = v.olds ++ v.front ∷ w.front ∷ w.olds; own = mix v.own w.own }
+  joined mix v w = record v { kept = v.kept ++ record { number = w.number; calls = w.calls } ∷ w.kept; stake = v.stake + w.stake; front = longer v.front w.front; olds = v.olds ++ v.front ∷ w.front ∷ w.olds; dues = mix v.dues w.dues }

@@ -9,7 +9,7 @@ pub struct Kept<E> {
 
 /// What a seat knows: its world, its caller number with its events, the numbers that it keeps for seats that joined it, the
 /// numbers that it may still give (`left` of them from `next` on), its part of the stake, its front, the fronts that it had
-/// at joins, and what it has begun. A seat that was joined away has the stake 0. No value of it is made.
+/// at joins, and its dues, what it has begun. A seat that was joined away has the stake 0. No value of it is made.
 pub struct View<W, E, D> {
     pub world: W,
     pub number: u64,
@@ -20,5 +20,5 @@ pub struct View<W, E, D> {
     pub stake: u64,
     pub front: LinkedList<E>,
     pub olds: LinkedList<LinkedList<E>>,
-    pub own: D,
+    pub dues: D,
 }

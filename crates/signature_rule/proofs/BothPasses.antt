@@ -12,7 +12,7 @@ use Rattle.tensor_words.specs.TensorRule.{word_phi}
 use Rattle.signature_rule.specs.Passes.{AreSigns, OpensAt, bottom}
 use Rattle.signature_rule.proofs.Signs.{first_eps, acts_from}
 use Rattle.signature_rule.proofs.PassSteps.{factor_acts, none_left, raise_placed}
-use Rattle.tensor_words.proofs.Turned.{near}
+use Rattle.tensor_words.specs.TensorRule.{seen_action}
 use Rattle.tensor_words.proofs.SpaceWords.{length_word}
 
 -- the place of the first sign eps that is open behind the factors: k is the place of the first of these factors, m signs eps are open
@@ -84,15 +84,12 @@ bottom_step g fs w k m found below within = rw (drop_more fs k Vector below, dro
 pub record IsBottomPass (s : SpaceType) (i : ℕ) (w : List ℕ) (k m : ℕ) (found : Option ℕ) : Type 0 where
   pub same : bottom_eps (factor_acts s i k) m k found (drop k w) ≡ bottom_eps (factor_acts s i 0) 0 0 None w
 
-pub bottom_start : (s : SpaceType) (i : ℕ) (w : List ℕ) → IsBottomPass s i w 0 0 None
-bottom_start s i w = record { same = refl }
-
 pub bottom_next : (s : SpaceType) (i : ℕ) (w : List ℕ) (k m e f : ℕ) (found : Option ℕ) → AreSigns s i w k e f → IsBottomPass s i w k m found
     → IsBottomPass s i w (k + 1) (m - f + e) (bottom m f e k found)
 bottom_next s i w k m e f found signs p = record {
   same =
       rw (signs.eps, signs.phi)
-      (sym (bottom_step (near s i) s.factors w k m found signs.below (omega (arith, length_word s w signs.word, signs.below))) ∙ p.same);
+      (sym (bottom_step (seen_action s i) s.factors w k m found signs.below (omega (arith, length_word s w signs.word, signs.below))) ∙ p.same);
 }
 
 pub bottom_end : (s : SpaceType) (i : ℕ) (w : List ℕ) (k m : ℕ) (found : Option ℕ) → length s.factors ≤ k → IsBottomPass s i w k m found

@@ -12,7 +12,8 @@ use Rattle.tensor_words.specs.Codes.{IsWord}
 use Rattle.tensor_words.specs.Steps.{IsRow}
 use Rattle.tensor_words.specs.TensorRule.{word_phi, action, as_standard}
 use Rattle.tensor_words.proofs.SpaceWords.{length_word}
-use Rattle.tensor_words.proofs.Turned.{near, near_rule}
+use Rattle.tensor_words.specs.TensorRule.{seen_action}
+use Rattle.tensor_words.proofs.Turned.{near_rule}
 use Rattle.signature_rule.specs.Passes.{AreSigns, ClosesAt, OpensAt, bottom}
 use Rattle.signature_rule.specs.Places.{entry_place, bottom_entry, closing_in, opening_in}
 use Rattle.signature_rule.proofs.Signs.{phi_step}
@@ -29,7 +30,7 @@ closing_start s i w = record { same = omega (arith, (near_rule s i w).phi) }
 pub closing_more : (s : SpaceType) (i : ℕ) (w : List ℕ) (k m p e f : ℕ) → AreSigns s i w k e f → IsClosingPass s i w k m p → IsClosingPass s i w (k + 1) (m - f + e) (p + (f - m))
 closing_more s i w k m p e f signs before = record {
   same =
-      let step = phi_step (near s i) s.factors w k signs.below (omega (arith, length_word s w signs.word, signs.below)) in
+      let step = phi_step (seen_action s i) s.factors w k signs.below (omega (arith, length_word s w signs.word, signs.below)) in
       omega (arith, step, before.same, signs.eps, signs.phi);
 }
 

@@ -4,4 +4,3 @@ pub mod BothPasses
 pub mod Lifting
 pub mod Lanes
 pub mod Vectors
-pub mod Paths

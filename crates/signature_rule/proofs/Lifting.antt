@@ -1,5 +1,5 @@
 -- Lifting a word: the words on the way.
-use Rattle.std.proofs.Common.{◌≡◌, ◌∙◌, sym, ap, refl, ℕ, ◌+◌, ◌≤◌, ◌<◌, ◌≢◌, List, [], ◌∷◌, ◌++◌, length, Some, None, All, inl, inr, arith, append_assoc, length-append}
+use Rattle.std.proofs.Common.{◌≡◌, ◌∙◌, sym, ap, ℕ, ◌+◌, ◌≤◌, ◌<◌, ◌≢◌, List, [], ◌∷◌, ◌++◌, length, Some, None, All, inl, inr, arith, append_assoc, length-append}
 use Rattle.std.specs.List.{AllPairs}
 use Rattle.std.proofs.lemmas.Bool.{cases_lt}
 use Rattle.std.proofs.lemmas.Option.{none-some}
@@ -43,9 +43,6 @@ pub record IsLifting (s : SpaceType) (w v : List ℕ) (n : ℕ) : Type 0 where
   pub rest : (top : List ℕ) (way : List (List ℕ)) → LiftsBy s v top way → LiftsBy s w top (done ++ way)
   pub word : IsWord s v
   pub falls : n + digit_sum v ≤ digit_sum w
-
-pub lifting_start : (s : SpaceType) (w : List ℕ) → IsWord s w → IsLifting s w w 0
-lifting_start s w word = record { done = []; count = refl; rest = λ top way l. l; word = word; falls = omega arith }
 
 pub lifting_more : (s : SpaceType) (w v u : List ℕ) (n : ℕ) → IsSpace s → IsLifting s w v n → IsLeastRaise s v u → IsLifting s w u (n + 1)
 lifting_more s w v u n space p r =

@@ -14,12 +14,13 @@ use Rattle.signature_rule.specs.Passes.{AreSigns, ClosesAt, OpensAt}
 use Rattle.tensor_words.proofs.KeptWords.{factors_of_space}
 use Rattle.signature_rule.proofs.Signs.{open_eps, eps_by_pass, last_phi, last_phi_found, lower_place, lower_at, first_eps, RaisesAt, raise_at, acts_from, first_eps_from, open_eps_step, last_phi_step, phi_step, first_eps_step}
 use Rattle.tensor_words.proofs.SpaceWords.{length_word}
-use Rattle.tensor_words.proofs.Turned.{IsSame, near, near_rule}
+use Rattle.tensor_words.specs.TensorRule.{seen_action}
+use Rattle.tensor_words.proofs.Turned.{IsSame, near_rule}
 use Rattle.tensor_words.proofs.WordWeights.{seminormal_word}
 
 -- how one index acts on the factors from the place k on, and on the word, as the standard order sees it
 abbrev pub factor_acts : SpaceType → ℕ → ℕ → List (Action ℕ)
-factor_acts s i k = acts_from (near s i) s.factors k
+factor_acts s i k = acts_from (seen_action s i) s.factors k
 
 abbrev pub whole : SpaceType → ℕ → Action (List ℕ)
 whole s i = as_standard s.order (action s i)
@@ -38,7 +39,7 @@ eps_start s i w = record { few = omega arith; same = omega (arith, eps_by_pass (
 pub eps_more : (s : SpaceType) (i : ℕ) (w : List ℕ) (k m e f : ℕ) → AreSigns s i w k e f → e ≤ 2 → IsEpsPass s i w k m → IsEpsPass s i w (k + 1) (m - f + e)
 eps_more s i w k m e f signs small p = record {
   few = omega (arith, p.few);
-  same = rw (signs.eps, signs.phi) (sym (open_eps_step (near s i) s.factors w k signs.below (omega (arith, length_word s w signs.word, signs.below)) m) ∙ p.same);
+  same = rw (signs.eps, signs.phi) (sym (open_eps_step (seen_action s i) s.factors w k signs.below (omega (arith, length_word s w signs.word, signs.below)) m) ∙ p.same);
 }
 
 pub eps_end : (s : SpaceType) (i : ℕ) (w : List ℕ) (k m : ℕ) → length s.factors ≤ k → IsEpsPass s i w k m → m ≡ (whole s i).eps w
@@ -49,14 +50,11 @@ pub record IsPhiPass (s : SpaceType) (i : ℕ) (w : List ℕ) (k m : ℕ) : Type
   pub few : m + 2 * k ≤ 2 * length s.factors
   pub same : m ≡ word_phi (factor_acts s i k) (drop k w)
 
-pub phi_start : (s : SpaceType) (i : ℕ) (w : List ℕ) (k : ℕ) → k ≡ length s.factors → IsPhiPass s i w k 0
-phi_start s i w k all = record { few = omega arith; same = rw (none_left s i k (omega arith)) refl }
-
 pub phi_more : (s : SpaceType) (i : ℕ) (w : List ℕ) (k m e f : ℕ) → AreSigns s i w k e f → f ≤ 2 → IsPhiPass s i w (k + 1) m → IsPhiPass s i w k (m - e + f)
 phi_more s i w k m e f signs small p = record {
   few = omega (arith, p.few);
   same =
-      let step = phi_step (near s i) s.factors w k signs.below (omega (arith, length_word s w signs.word, signs.below)) in
+      let step = phi_step (seen_action s i) s.factors w k signs.below (omega (arith, length_word s w signs.word, signs.below)) in
       omega (arith, step, p.same, signs.eps, signs.phi);
 }
 
@@ -76,14 +74,11 @@ pub record IsLowerPass (s : SpaceType) (i : ℕ) (w : List ℕ) (k m : ℕ) (fou
   pub few : m ≤ 2 * k
   pub same : last_phi (factor_acts s i k) m k found (drop k w) ≡ last_phi (factor_acts s i 0) 0 0 None w
 
-pub lower_start : (s : SpaceType) (i : ℕ) (w : List ℕ) → IsLowerPass s i w 0 0 None
-lower_start s i w = record { few = omega arith; same = refl }
-
 module _ (s : SpaceType) (i : ℕ) (w : List ℕ) (k m e f : ℕ) (found : Option ℕ) (signs : AreSigns s i w k e f) (small : e ≤ 2) (p : IsLowerPass s i w k m found) where
   lower_step : (b : Bool) → nat_lt m f ≡ b → IsLowerPass s i w (k + 1) (m - f + e) (if b then Some k else found)
   lower_step b test = record {
     few = omega (arith, p.few);
-    same = rw (sym test, signs.eps, signs.phi) (sym (last_phi_step (near s i) s.factors w k signs.below (omega (arith, length_word s w signs.word, signs.below)) m found) ∙ p.same);
+    same = rw (sym test, signs.eps, signs.phi) (sym (last_phi_step (seen_action s i) s.factors w k signs.below (omega (arith, length_word s w signs.word, signs.below)) m found) ∙ p.same);
   }
 
   pub lower_next : IsLowerPass s i w (k + 1) (m - f + e) (if nat_lt m f then Some k else found)
@@ -106,7 +101,7 @@ lower_end s i w k m found space index word all p =
     → ClosesAt s.order s i w (if b then Some (0 + lower_place (factor_acts s i 0) w) else None)) [
       | true ↦ λ is.
           let place : 0 + lower_place (factor_acts s i 0) w ≡ lower_place (factor_acts s i 0) w = omega arith in
-          let at = lower_at (near s i) s.factors w (grind (arith, nat_tests)) in
+          let at = lower_at (seen_action s i) s.factors w (grind (arith, nat_tests)) in
           rw place (record { below = at.below; acts = rule.lower ∙ at.value })
       | false ↦ λ is.
           let none : (whole s i).phi w ≡ 0 = rule.phi ∙ grind (arith, nat_tests) in
@@ -116,17 +111,14 @@ lower_end s i w k m found space index word all p =
 -- m signs phi are left over from the place k on, and `found` is the place of the first sign eps that is left over there
 pub record IsRaisePass (s : SpaceType) (i : ℕ) (w : List ℕ) (k m : ℕ) (found : Option ℕ) : Type 0 where
   pub phi : IsPhiPass s i w k m
-  pub same : found ≡ first_eps_from (near s i) s.factors w k
-
-pub raise_start : (s : SpaceType) (i : ℕ) (w : List ℕ) (k : ℕ) → k ≡ length s.factors → IsRaisePass s i w k 0 None
-raise_start s i w k all = record { phi = phi_start s i w k all; same = rw (none_left s i k (omega arith)) refl }
+  pub same : found ≡ first_eps_from (seen_action s i) s.factors w k
 
 module _ (s : SpaceType) (i : ℕ) (w : List ℕ) (k m e f : ℕ) (found : Option ℕ) (signs : AreSigns s i w k e f) (small : f ≤ 2) (p : IsRaisePass s i w (k + 1) m found) where
   raise_step : (b : Bool) → nat_lt m e ≡ b → IsRaisePass s i w k (m - e + f) (if b then Some k else found)
   raise_step b test = record {
     phi = phi_more s i w k m e f signs small p.phi;
     same =
-        let step = first_eps_step (near s i) s.factors w k signs.below (omega (arith, length_word s w signs.word, signs.below)) in
+        let step = first_eps_step (seen_action s i) s.factors w k signs.below (omega (arith, length_word s w signs.word, signs.below)) in
         rw (sym test, signs.eps, p.phi.same, p.same) (sym step);
   }
 
@@ -136,16 +128,16 @@ module _ (s : SpaceType) (i : ℕ) (w : List ℕ) (k m e f : ℕ) (found : Optio
   pub raise_not_here : e ≤ m → IsRaisePass s i w k (m - e + f) found
   raise_not_here less = raise_step false (grind (arith, nat_tests))
 
-pub raise_placed : (s : SpaceType) (i : ℕ) (w : List ℕ) (found : Option ℕ) → found ≡ first_eps_from (near s i) s.factors w 0 → OpensAt s.order s i w found
+pub raise_placed : (s : SpaceType) (i : ℕ) (w : List ℕ) (found : Option ℕ) → found ≡ first_eps_from (seen_action s i) s.factors w 0 → OpensAt s.order s i w found
 raise_placed s i w found is =
     rw (is ∙ unshifted (first_eps (factor_acts s i 0) w))
-    (placed (first_eps (factor_acts s i 0) w) (raise_at (near s i) s.factors w))
+    (placed (first_eps (factor_acts s i 0) w) (raise_at (seen_action s i) s.factors w))
   where
     unshifted : (o : Option ℕ) → option_map (λ p. 0 + p) o ≡ o
     unshifted None = refl
     unshifted (Some p) = ap Some (omega arith)
 
-    placed : (o : Option ℕ) → RaisesAt (near s i) s.factors w o (word_raise (factor_acts s i 0) w) → OpensAt s.order s i w o
+    placed : (o : Option ℕ) → RaisesAt (seen_action s i) s.factors w o (word_raise (factor_acts s i 0) w) → OpensAt s.order s i w o
     placed None h = (near_rule s i w).raise ∙ h
     placed (Some p) h = record { below = h.below; acts = (near_rule s i w).raise ∙ h.value }
 

@@ -17,7 +17,7 @@ pub(crate) struct Acting {
     places: ActingPlaces,
 }
 
-/// The word that the operators of a space met last, with the places where they act on it, so that all arrows of one word
+/// The word that the operators of a space took up last, with the places where they act on it, so that all arrows of one word
 /// cost one pass over its factors. Takes no memory of its own. Contracts see the space.
 #[derive(Debug, Drop)]
 pub struct LastWord {
@@ -38,7 +38,7 @@ impl Model for LastWord {
 }
 
 impl LastWord {
-    /// No word of the space was met yet.
+    /// No word of the space was taken up yet.
     pub fn new(space: Space) -> LastWord
         ensures { result ≡ space }
     {
@@ -58,7 +58,7 @@ impl LastWord {
         ensures value { result ≡ op self.old arrow code }
         ensures word { IfSome result (λ next. next < size self.old) }
     {
-        meet(steps, &mut self.acting, code);
+        take_up(steps, &mut self.acting, code);
         match &self.acting {
             Some(acting) => acted(steps, acting, arrow),
             None => unreachable!(),
@@ -67,7 +67,7 @@ impl LastWord {
 }
 
 /// Makes the word with this code the last, unless it is that already.
-fn meet(steps: &Steps, last: &mut Option<Acting>, code: u64)
+fn take_up(steps: &Steps, last: &mut Option<Acting>, code: u64)
     requires code { code < size steps.now }
     requires acting { IfSome last.old (IsActing steps.now) }
     ensures { MatchOption last.new ⊥ (λ acting. IsActing steps.now acting × (acting.code ≡ code)) }

@@ -14,10 +14,11 @@ use Rattle.spin_crystals.specs.Signs.{signs_of_number, number_of_signs, is_of_ha
 use Rattle.spin_crystals.specs.SpinCrystals.{signs_action, spin_digit_action, signs_weight}
 use Rattle.spin_crystals.proofs.Bits.{signs_of_number-mod}
 use Rattle.spin_crystals.proofs.Halves.{lower_keeps, raise_keeps}
-use Rattle.spin_crystals.proofs.Places.{rank_positive, digit_of_bits, digit_of_bits-back, signs_digit-bits, signs_at-half, length-signs_at, signs_digit-at, digit_of_bits-below}
+use Rattle.spin_crystals.proofs.Places.{digit_of_bits, digit_of_bits-back, signs_digit-bits, signs_at-half, length-signs_at, signs_digit-at, digit_of_bits-below}
 use Rattle.spin_crystals.proofs.Edges.{change, lower-change, raise-change, change-lengths}
 use Rattle.spin_crystals.proofs.Strings.{replaced_length}
 use Rattle.spin_crystals.proofs.VectorLaws.{vector_seminormal}
+use Rattle.crystal_cartan.proofs.Ranks.{rank_positive}
 
 pub spin_from_half : (t : CartanType) (half : Half) → HasHalf t half → HasSpin t
 spin_from_half t half has = from t.kind half has
@@ -34,7 +35,7 @@ spin_from_half t half has = from t.kind half has
 
 -- ---- every vector is that of its number
 
-number_below : (v : List Bool) → number_of_signs v < 2 ^ length v
+pub number_below : (v : List Bool) → number_of_signs v < 2 ^ length v
 number_below [] = omega arith
 number_below (false ∷ v) =
     let rest : number_of_signs v < 2 ^ length v = number_below v in

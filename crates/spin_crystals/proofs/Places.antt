@@ -7,14 +7,14 @@ use Rattle.std.proofs.Math.Nat.{mod-one, mod-eq_of_lt}
 use Rattle.std.proofs.Math.Seq.{take-append_seam}
 use Rattle.std.proofs.lemmas.Nat.{pow_pos, mod-pow-add, mod_below, ones_cat, shr_below}
 use Rattle.std.proofs.lemmas.Bool.Decides.{nat_tests}
-use Rattle.crystal_cartan.specs.Types.{CartanType, IsCartan, least_rank}
-use Rattle.crystal_cartan.specs.declared.types.Kind.TheVariants.{A, B, C, D}
+use Rattle.crystal_cartan.specs.Types.{CartanType, IsCartan}
 use Rattle.spin_crystals.specs.declared.signs.Signs.{Signs}
 use Rattle.spin_crystals.specs.declared.signs.Half.{Half}
 use Rattle.spin_crystals.specs.declared.signs.Half.TheVariants.{Whole, Plus, Minus}
 use Rattle.spin_crystals.specs.Signs.{signs_of_number, number_of_signs, has_odd_minuses, is_of_half, half_size, signs_digit, signs_at, IsSigns, vector_of}
 use Rattle.spin_crystals.proofs.Bits.{length-signs_of_number, signs_of_number-split, signs_of_number-mod, number_of_signs_of}
 use Rattle.spin_crystals.proofs.Halves.{has_odd_minuses-append}
+use Rattle.crystal_cartan.proofs.Ranks.{rank_positive}
 
 ones_zero : count_ones 0 ≡ 0
 unfolding ones
@@ -158,12 +158,6 @@ signs_of_number-more r d true low =
     signs_of_number-last r (d * 2 + 1) low ∙ rw (quotient, rest) refl
 
 -- ---- what the code has
-
-pub rank_positive : (t : CartanType) → IsCartan t → 1 ≤ t.rank
-rank_positive t classical =
-    let least : 1 ≤ least_rank t.kind = elim t.kind as (λ k. 1 ≤ least_rank k) [ A ↦ omega arith | B ↦ omega arith | C ↦ omega arith | D ↦ omega arith ] in
-    let low : least_rank t.kind ≤ t.rank = classical.low in
-    omega arith
 
 pub whole_bits : (half : Half) (bits b : ℕ) → half ≡ Whole → bits ≡ b → bits ≡ digit_of_bits half b
 whole_bits half bits b is same = rw is same

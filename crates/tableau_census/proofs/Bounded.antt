@@ -8,9 +8,10 @@ use Rattle.vector_crystals.specs.Letters.{letter_count, letter_count_of}
 use Rattle.tableau_reading.specs.Shapes.{ShapeType, tableau_shape, IsShape, box_count, shape_space}
 use Rattle.tensor_words.specs.Codes.{IsWord}
 use Rattle.tableau_reading.specs.Readings.{Box, column_place}
+use Rattle.tableau_reading.proofs.FilledRows.{digit_of_word}
 use Rattle.tableau_census.specs.Semistandard.{entry, IsSemistandard}
 use Rattle.tableau_census.specs.Listing.{low_at, bound_at, box_of, low_in, bound_in, IsBounded}
-use Rattle.tableau_census.proofs.ShapeWords.{word_from_digits, digit_of_word}
+use Rattle.tableau_census.proofs.ShapeWords.{word_from_digits}
 use Rattle.tableau_reading.proofs.Boxes.{row_there}
 use Rattle.tableau_reading.proofs.Orders.{placed, read_at}
 use Rattle.tableau_census.proofs.Neighbours.{place_later, place_lower, row_above, column_below}

@@ -12,10 +12,10 @@ use Rattle.tableau_reading.specs.Readings.{Box, box, boxes_read, place}
 use Rattle.tableau_reading.specs.Fillings.{FillingType, IsFilling, letter_in, filling_word, filling_of}
 use Rattle.tableau_reading.proofs.HighestTops.{unbarred}
 use Rattle.tableau_reading.proofs.Orders.{placed, read_at, length-boxes_read}
-use Rattle.tableau_reading.proofs.FilledRows.{letter_from, rows_again, word_again}
+use Rattle.tableau_reading.proofs.FilledRows.{letter_from, rows_again, word_again, digit_of_word}
 use Rattle.tableau_census.specs.Semistandard.{entry, IsSemistandard, IsReadingCode}
 use Rattle.tableau_census.specs.Laws.{ReadingsAreOfFillings}
-use Rattle.tableau_census.proofs.ShapeWords.{word_from_digits, digit_of_word}
+use Rattle.tableau_census.proofs.ShapeWords.{word_from_digits}
 use Rattle.tableau_census.proofs.Neighbours.{row_above}
 
 -- in type A each letter is one more than its digit

@@ -10,3 +10,4 @@ pub mod Reached
 pub mod Letters
 pub mod Theorem
 pub mod Completing
+pub mod Determined

@@ -6,6 +6,7 @@ use Rattle.std.proofs.lemmas.Bool.Decides.{nat_tests}
 use Rattle.std.proofs.lemmas.List.{ext_get_or, get_or_append_left, get_or-append_right, get_or-set_other, length-set, length-append}
 use Rattle.std.proofs.lemmas.List.Elements.{Contains-append_left, Contains-append_right, Contains-append_cases, Contains-get_or}
 use Rattle.std.proofs.lemmas.Grind.{get_or-set_at}
+use Rattle.list_facts.proofs.Rising.{Rises}
 use Rattle.crystal_cartan.specs.Types.{CartanType}
 use Rattle.crystal_cartan.specs.declared.types.Kind.TheVariants.{A}
 use Rattle.tableau_reading.specs.Shapes.{ShapeType, tableau_shape, IsShape, box_count, shape_space}
@@ -13,7 +14,6 @@ use Rattle.tensor_words.specs.Codes.{IsWord, code_of, is_before}
 use Rattle.tableau_census.specs.Listing.{low_in, bound_in, IsBounded, completion_codes}
 use Rattle.tableau_census.specs.Laws.{IsBeginning}
 use Rattle.tableau_census.proofs.ShapeWords.{before_below}
-use Rattle.tensor_words.proofs.Walks.{Rises}
 use Rattle.tableau_census.proofs.Bounded.{Agree, bounds_agree, bounded_again, room, bounded_is_word, bounded_is_semistandard}
 
 -- ---- lists one after another, one for each number of a range

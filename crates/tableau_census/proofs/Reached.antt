@@ -18,6 +18,7 @@ use Rattle.tensor_words.proofs.Keeps.{mapped_some, operators_keep_words}
 use Rattle.tensor_words.proofs.KeptWords.{raise_lowers_code}
 use Rattle.tensor_words.proofs.SpaceWords.{word_back, code_back, code_below, IsWord-word_of}
 use Rattle.tensor_words.proofs.Strings.{words_are_seminormal}
+use Rattle.tensor_words.proofs.Walks.{reached_more}
 use Rattle.tableau_reading.specs.Shapes.{ShapeType, tableau_shape, IsShape, shape_space, box_count}
 use Rattle.tableau_reading.specs.Readings.{top_word}
 use Rattle.tableau_reading.proofs.HighestTops.{top_is_word}
@@ -25,33 +26,10 @@ use Rattle.tableau_census.specs.Semistandard.{IsSemistandard}
 use Rattle.tableau_census.specs.Laws.{OperatorsKeepSemistandard, OnlyTopIsHighest}
 use Rattle.tableau_census.proofs.OpenPlaces.{Between, lowers, raises, no_eps}
 use Rattle.tableau_census.proofs.VectorSteps.{word_steps}
-use Rattle.tableau_census.proofs.ShapeWords.{shape_factors, length_of_word, digit_of_word}
+use Rattle.tableau_reading.proofs.FilledRows.{digit_of_word}
+use Rattle.tableau_census.proofs.ShapeWords.{shape_factors, length_of_word}
 use Rattle.tableau_census.proofs.Kept.{lowered_kept, raised_kept}
 use Rattle.tableau_census.proofs.Highest.{is_top, top_is_semistandard}
-
--- ---- paths with one arrow more
-
-path_more : (s : SpaceType) (path : List Arrow) (a : Arrow) → IsPath s path → IsArrow s a → IsPath s (path ++ a ∷ [])
-path_more s [] a arrows fits = (fits, tt)
-path_more s (b ∷ path) a arrows fits = (arrows.0, path_more s path a arrows.1 fits)
-
-walk_more : (s : SpaceType) (path : List Arrow) (a : Arrow) (c d e : ℕ) → walk s path c ≡ Some d → op s a d ≡ Some e → walk s (path ++ a ∷ []) c ≡ Some e
-unfolding walk
-walk_more s [] a c d e before leads = let same : c ≡ d = cc in rw (same, leads) refl
-walk_more s (b ∷ path) a c d e before leads =
-    elim (op s b c) as (λ o. option_and_then (walk s path) o ≡ Some d → option_and_then (walk s (path ++ a ∷ [])) o ≡ Some e) [
-      | None ↦ λ none. cc
-      | Some x ↦ λ rest. walk_more s path a x d e rest leads
-    ] before
-
-reached_more : (s : SpaceType) (roots : List ℕ) (a : Arrow) (c d : ℕ) → IsReachedFrom s roots c → IsArrow s a → op s a c ≡ Some d → IsReachedFrom s roots d
-reached_more s roots a c d r fits leads = record {
-  root = r.root;
-  rooted = r.rooted;
-  path = r.path ++ a ∷ [];
-  arrows = path_more s r.path a r.arrows fits;
-  leads = walk_more s r.path a r.root c d r.leads leads;
-}
 
 -- ---- in type A
 

@@ -6,20 +6,15 @@ use Rattle.tensor_words.specs.declared.spaces.Factor.TheVariants.{Vector}
 use Rattle.tensor_words.specs.Spaces.{HasFactors, base_size}
 use Rattle.tensor_words.specs.Codes.{AreDigits, IsWord, code_of, is_before}
 use Rattle.tensor_words.proofs.CodeLaws.{codes_are_lexicographic}
-use Rattle.tensor_words.proofs.SpaceWords.{length_word, digit_small}
+use Rattle.tensor_words.proofs.SpaceWords.{length_word}
 use Rattle.tableau_reading.specs.Shapes.{ShapeType, IsShape, box_count, shape_space}
-use Rattle.tableau_reading.proofs.VectorSpaces.{all_vectors, vector_size, length-shape_space}
+use Rattle.tableau_reading.proofs.VectorSpaces.{all_vectors, length-shape_space}
 
 pub shape_factors : (s : ShapeType) → IsShape s → HasFactors (shape_space s)
 shape_factors s h = record { cartan = h.cartan; had = all_vectors s.cartan.kind (box_count s) }
 
 pub length_of_word : (s : ShapeType) (w : List ℕ) → IsWord (shape_space s) w → length w ≡ box_count s
 length_of_word s w word = length_word (shape_space s) w word ∙ length-shape_space s
-
-pub digit_of_word : (s : ShapeType) (w : List ℕ) (k : ℕ) → IsWord (shape_space s) w → k < box_count s → get_or w k 0 < letter_count s.cartan
-digit_of_word s w k word lt =
-    let small = digit_small (shape_space s) w k word (omega (arith, length-shape_space s)) in
-    rw (vector_size s k lt) at small
 
 are_digits : (t : CartanType) (n : ℕ) (w : List ℕ) → length w ≡ n → ((k : ℕ) → k < n → get_or w k 0 < letter_count t) → AreDigits (map (base_size t) (replicate n Vector)) w
 unfolding base_size

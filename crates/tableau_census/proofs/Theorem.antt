@@ -3,6 +3,7 @@ use Rattle.std.proofs.Common.{◌≡◌, sym, subst, ℕ, ◌+◌, ◌<◌, ◌�
 use Rattle.std.specs.List.Sorted.{IsStrictlyIncreasing}
 use Rattle.std.proofs.lemmas.List.Elements.{Contains-get_or}
 use Rattle.std.proofs.lemmas.List.Kept.{AllPairs-from_increasing}
+use Rattle.list_facts.proofs.Rising.{increasing, same_members}
 use Rattle.crystal_cartan.specs.Types.{CartanType}
 use Rattle.crystal_cartan.specs.declared.types.Kind.TheVariants.{A}
 use Rattle.tensor_words.specs.declared.spaces.Order.TheVariants.{Standard}
@@ -10,7 +11,7 @@ use Rattle.tensor_words.specs.Spaces.{SpaceType, size}
 use Rattle.tensor_words.specs.Codes.{word_of}
 use Rattle.tensor_words.specs.Reach.{IsComponentList}
 use Rattle.tensor_words.proofs.SpaceWords.{IsWord-word_of, word_back, code_back, code_below}
-use Rattle.tensor_words.proofs.Walks.{Rises, same_members, component_list_is_unique}
+use Rattle.tensor_words.proofs.Walks.{component_list_is_unique}
 use Rattle.tableau_reading.specs.Shapes.{ShapeType, tableau_shape, IsShape, shape_space, box_count}
 use Rattle.tableau_reading.specs.Readings.{top_word}
 use Rattle.tableau_reading.proofs.HighestTops.{top_is_word}
@@ -26,9 +27,6 @@ use Rattle.tableau_census.proofs.Bounded.{bounded, bounded_is_word, bounded_is_s
 use Rattle.tableau_census.proofs.Listed.{Completes, listed, lists, ascends, completed}
 use Rattle.tableau_census.proofs.Reached.{IsGood, reached_is_good, good_is_reached, of_standard, as_standard}
 use Rattle.tableau_census.proofs.Letters.{IsSemistandardCode, code_from_filling, filling_from_code}
-
-increasing : (xs : List ℕ) → Rises xs → IsStrictlyIncreasing xs
-increasing xs h k lt = h k (k + 1) 0 (omega arith) lt
 
 pub census_is_unique : CensusIsUnique
 census_is_unique s xs ys p q =

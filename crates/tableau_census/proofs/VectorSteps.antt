@@ -6,13 +6,14 @@ use Rattle.std.specs.Option.{option_eq}
 use Rattle.std.specs.Ordering.{int_eq}
 use Rattle.std.proofs.lemmas.Bool.{cases_eq, eqb-true}
 use Rattle.std.proofs.lemmas.Bool.Decides.{nat_tests}
+use Rattle.list_facts.proofs.Truth.{first_true, second_true}
 use Rattle.crystal_cartan.specs.Types.{CartanType, IsCartan}
 use Rattle.crystal_cartan.specs.Crystals.{Action, edge_action, carried}
 use Rattle.crystal_cartan.specs.declared.types.Kind.{Kind}
 use Rattle.crystal_cartan.specs.declared.types.Kind.TheVariants.{A}
 use Rattle.vector_crystals.specs.Letters.{letters_of, letters, letter_count, letter_count_of}
 use Rattle.vector_crystals.specs.VectorCrystals.{vector_edges_of, vector_edges, letter_action, digit_action}
-use Rattle.vector_crystals.proofs.Tables.{and_left, and_right, all_below, below_at}
+use Rattle.vector_crystals.proofs.Tables.{all_below, below_at}
 use Rattle.tensor_words.specs.declared.spaces.Factor.TheVariants.{Vector}
 use Rattle.tensor_words.specs.Spaces.{base_size, base_action}
 use Rattle.tensor_words.specs.Codes.{AreDigits, IsWord}
@@ -80,12 +81,12 @@ none_if n d e is other = let test : (d == e) ≡ false = grind (arith, nat_tests
 
 swap_from_cell : (r a d : ℕ) → swap_cell r a d ≡ true → IsSwap (acts r (a + 1)) a d
 swap_from_cell r a d cell =
-    let counts : swap_counts r a d ≡ true = and_left (swap_counts r a d) (swap_moves r a d) cell in
-    let moves : swap_moves r a d ≡ true = and_right (swap_counts r a d) (swap_moves r a d) cell in
-    let phi : (acts r (a + 1)).phi d ≡ (if d == a then 1 else 0) = eqb-true _ _ (and_left _ _ counts) in
-    let eps : (acts r (a + 1)).eps d ≡ (if d == a + 1 then 1 else 0) = eqb-true _ _ (and_right ((acts r (a + 1)).phi d == (if d == a then 1 else 0)) _ counts) in
-    let lower : (acts r (a + 1)).lower d ≡ taken d a (a + 1) = same_option _ _ (and_left _ _ moves) in
-    let raise : (acts r (a + 1)).raise d ≡ taken d (a + 1) a = same_option _ _ (and_right (option_eq nat_eq ((acts r (a + 1)).lower d) (taken d a (a + 1))) _ moves) in
+    let counts : swap_counts r a d ≡ true = first_true (swap_counts r a d) (swap_moves r a d) cell in
+    let moves : swap_moves r a d ≡ true = second_true (swap_counts r a d) (swap_moves r a d) cell in
+    let phi : (acts r (a + 1)).phi d ≡ (if d == a then 1 else 0) = eqb-true _ _ (first_true _ _ counts) in
+    let eps : (acts r (a + 1)).eps d ≡ (if d == a + 1 then 1 else 0) = eqb-true _ _ (second_true ((acts r (a + 1)).phi d == (if d == a then 1 else 0)) _ counts) in
+    let lower : (acts r (a + 1)).lower d ≡ taken d a (a + 1) = same_option _ _ (first_true _ _ moves) in
+    let raise : (acts r (a + 1)).raise d ≡ taken d (a + 1) a = same_option _ _ (second_true (option_eq nat_eq ((acts r (a + 1)).lower d) (taken d a (a + 1))) _ moves) in
     record {
       phi_here = one_if ((acts r (a + 1)).phi d) d a phi;
       phi_else = none_if ((acts r (a + 1)).phi d) d a phi;

@@ -1,8 +1,7 @@
 -- The rows of fillings.
 use Rattle.std.proofs.Common.{◌≡◌, ◌∙◌, refl, sym, ap, ap₂, subst, ℕ, zero, suc, ◌+◌, ◌≤◌, ◌<◌, ◌==◌, ◌&&◌, Bool, true, false, if◌then◌else◌, List, [], ◌∷◌, length, map, set, get_or, replicate, ℤ, pos, inl, inr, arith}
 use Rattle.std.specs.List.{range_with_len}
-use Rattle.std.proofs.lemmas.Bool.{cases_lt, cases_eq, and_parts, eqb-true}
-use Rattle.std.proofs.lemmas.Bool.Decides.{nat_tests}
+use Rattle.std.proofs.lemmas.Bool.{cases_lt, cases_eq, and_parts, eqb-true, eq-eqb}
 use Rattle.std.proofs.lemmas.List.{get_or-replicate, get_or-set_other, ext_get_or, get_or-map, length-map}
 use Rattle.std.proofs.lemmas.Grind.{get_or-set_at}
 use Rattle.std.proofs.lemmas.List.FromFn.{get_or-map-range_with_len}
@@ -78,14 +77,11 @@ letters_more t n letters x lt good before = record {
   ];
 }
 
-eq_refl : (n : ℕ) → (n == n) ≡ true
-eq_refl n = grind (arith, nat_tests)
-
 differs : (r c i j : ℕ) → ((i == r) && (j == c)) ≡ false → box i j ≡ box r c → ⊥
 differs r c i j is same =
     let row : i ≡ r = ap (λ (b : Box). b.row) same in
     let column : j ≡ c = ap (λ (b : Box). b.column) same in
-    let test = rw (row, column, eq_refl r, eq_refl c) at is in
+    let test = rw (row, column, eq-eqb r r refl, eq-eqb c c refl) at is in
     cc
 
 pub listed_put :
@@ -160,7 +156,7 @@ word_listed s w letters h good =
     ap (filling s) (rows_same s (λ r c. get_or letters (place s r c) (pos 0)) (λ r c. letter_at s.cartan (get_or w (place s r c) 0)) (λ r c lt.
     good.at (place s r c) (placed s r c h lt).below))
 
-digit_of_word : (s : ShapeType) (w : List ℕ) (k : ℕ) → IsWord (shape_space s) w → k < box_count s → get_or w k 0 < letter_count s.cartan
+pub digit_of_word : (s : ShapeType) (w : List ℕ) (k : ℕ) → IsWord (shape_space s) w → k < box_count s → get_or w k 0 < letter_count s.cartan
 digit_of_word s w k word lt =
     let small = digit_small (shape_space s) w k word (omega (arith, length-shape_space s)) in
     rw (vector_size s k lt) at small

@@ -1,14 +1,12 @@
 -- Lists of row lengths.
-use Rattle.std.proofs.Common.{◌≡◌, ◌∙◌, refl, sym, ℕ, suc, ◌+◌, ◌-◌, ◌*◌, ◌^◌, ◌≤◌, ◌<◌, nat_le, nat_lt, true, false, ◌&&◌, if◌then◌else◌, min, List, [], ◌∷◌, ◌++◌, length, take, drop, set, get_or, replicate, append_assoc, length-take, length-drop, arith}
+use Rattle.std.proofs.Common.{◌≡◌, ◌∙◌, refl, sym, ℕ, suc, ◌+◌, ◌-◌, ◌^◌, ◌≤◌, ◌<◌, nat_le, nat_lt, true, false, ◌&&◌, if◌then◌else◌, List, [], ◌∷◌, ◌++◌, length, take, drop, set, get_or, replicate, append_assoc, length-take, length-drop, arith}
 use Rattle.std.specs.Prelude.{sum}
 use Rattle.std.proofs.Math.Seq.{set-append_seam}
-use Rattle.std.proofs.Math.Nat.{pow-suc}
 use Rattle.std.proofs.lemmas.Bool.Decides.{nat_tests}
 use Rattle.std.proofs.lemmas.List.{drop_more, take_more, take_all}
 use Rattle.std.proofs.lemmas.List.Sums.{sum_by_push, sum_by-take-le, get_or-le-sum_by}
 use Rattle.crystal_cartan.specs.Types.{CartanType}
 use Rattle.vector_crystals.specs.Letters.{letter_count}
-use Rattle.tensor_words.proofs.Sizes.{capped_more}
 use Rattle.tableau_reading.specs.Shapes.{is_falling, is_large}
 
 -- ---- the number of boxes
@@ -38,15 +36,6 @@ few_words t n small =
   where
     not_above : (a b : ℕ) → nat_lt b a ≡ false → a ≤ b
     not_above a b is = grind (arith, nat_tests)
-
-pub power_more : (base k p next m : ℕ) → 1 ≤ base → p ≡ min (base ^ k) m → next ≡ min (p * base) m → next ≡ min (base ^ (k + 1)) m
-power_more base k p next m some is more =
-    let step : min (min (base ^ k * 1) m * base) m ≡ min (base ^ k * (1 * base)) m = capped_more (base ^ k) 1 base m some in
-    let once : base ^ k * 1 ≡ base ^ k = omega arith in
-    let one : 1 * base ≡ base = omega arith in
-    let next_power : k + 1 ≡ suc k = omega arith in
-    let here = rw (once, one) at step in
-    rw (more, is, next_power, pow-suc base k) here
 
 -- ---- whether the rows fall
 
@@ -80,9 +69,6 @@ falls_all rows p q next last before =
     sym (before ∙ short_falls (drop p rows) few)
 
 -- ---- rows filled up to nine
-
-pub padded_begins : (rows : List ℕ) → replicate 9 0 ≡ take 0 rows ++ replicate (9 - 0) 0
-padded_begins rows = refl
 
 pub padded_more : (rows padded new : List ℕ) (k x : ℕ) → k < length rows → length rows ≤ 9 → x ≡ get_or rows k 0 →
     padded ≡ take k rows ++ replicate (9 - k) 0 → new ≡ set padded k x → new ≡ take (k + 1) rows ++ replicate (9 - (k + 1)) 0

@@ -2,7 +2,7 @@
 use Rattle.std.proofs.Common.{◌≡◌, ◌∙◌, refl, sym, ap, ℕ, suc, ◌+◌, ◌-◌, ◌*◌, ◌/◌, ◌%◌, ◌^◌, ◌≤◌, ◌<◌, ◌==◌, nat_le, Bool, true, false, List, [], ◌∷◌, ◌++◌, length, drop, get_or, Option, Some, None, option_map, option_and_then, append_assoc, arith, if◌then◌else◌}
 use Rattle.std.proofs.Math.Nat.{one-mul}
 use Rattle.std.proofs.lemmas.Nat.{pow_pos, field_of}
-use Rattle.std.proofs.lemmas.List.{drop_more, drop_all, append-nil}
+use Rattle.std.proofs.lemmas.List.{drop_more}
 use Rattle.std.proofs.lemmas.Bool.Decides.{nat_tests}
 use Rattle.spin_crystals.specs.Signs.{signs_of_number, half_size, is_of_half, signs_digit, signs_at}
 use Rattle.spin_crystals.specs.declared.signs.Half.{Half}
@@ -11,7 +11,7 @@ use Rattle.spin_crystals.proofs.Places.{signs_of_number-last, signs_at-half, len
 use Rattle.crystal_cartan.specs.Types.{CartanType}
 use Rattle.text_pieces.specs.Numbers.{both, all_some}
 use Rattle.text_pieces.specs.Pieces.{has_none, is_word}
-use Rattle.tableau_reading.specs.Texts.{sign_byte, signs_text}
+use Rattle.tableau_reading.specs.Texts.{signs_text}
 use Rattle.tableau_reading.specs.Tokens.{sign_of, digit_of_signs, read_signs}
 
 -- the sign with n others behind it is a bit
@@ -24,15 +24,6 @@ sign_here n b =
     binary : (q : ℕ) → nat_le 1 (q % 2 ^ 1) ≡ (q % 2 == 1)
     binary q = grind (arith, nat_tests)
 
--- one sign more is printed
-pub sign_printed :
-    (n m b : ℕ) (old out new whole : List ℕ) → n ≡ m + 1 → new ≡ out ++ sign_byte (nat_le (2 ^ m) (b % 2 ^ (m + 1))) ∷ [] →
-    out ++ signs_text (signs_of_number n b) ≡ old ++ whole → new ++ signs_text (signs_of_number m b) ≡ old ++ whole
-sign_printed n m b old out new whole size is before =
-    let next : n ≡ suc m = omega arith in
-    let same = rw next at before in
-    rw (is, append_assoc) same
-
 -- the signs read so far and those to be read
 abbrev pub IsReadTo : List ℕ → ℕ → ℕ → Type 0
 IsReadTo text k b = option_map (λ v. signs_of_number k b ++ v) (all_some sign_of (drop k text)) ≡ all_some sign_of text
@@ -40,13 +31,6 @@ IsReadTo text k b = option_map (λ v. signs_of_number k b ++ v) (all_some sign_o
 map_front : (u : List Bool) (s : Bool) (r : Option (List Bool)) → option_map (λ v. u ++ v) (both (Some s) r) ≡ option_map (λ v. (u ++ s ∷ []) ++ v) r
 map_front u s None = refl
 map_front u s (Some v) = ap Some (sym (append_assoc u (s ∷ []) v))
-
-pub signs_begin : (text : List ℕ) → IsReadTo text 0 0
-signs_begin text = same (all_some sign_of text)
-  where
-    same : (r : Option (List Bool)) → option_map (λ v. [] ++ v) r ≡ r
-    same None = refl
-    same (Some v) = refl
 
 pub sign_taken :
     (text : List ℕ) (k b bit c : ℕ) → k < length text → bit ≤ 1 → sign_of (get_or text k 0) ≡ Some (bit == 1) → c ≡ 2 * b + bit →
@@ -60,18 +44,6 @@ sign_taken text k b bit c lt small good is before =
     let test : nat_le 1 bit ≡ (bit == 1) = grind (arith, nat_tests) in
     let signs : signs_of_number (k + 1) c ≡ signs_of_number k b ++ (bit == 1) ∷ [] = rw (signs_of_number-last (k + 1) c (omega arith), size, front, last, test) refl in
     rw signs (sym (map_front (signs_of_number k b) (bit == 1) (all_some sign_of (drop (k + 1) text))) ∙ here)
-
-pub sign_refused :
-    (text : List ℕ) (k b : ℕ) → k < length text → sign_of (get_or text k 0) ≡ None → IsReadTo text k b → None ≡ all_some sign_of text
-sign_refused text k b lt bad before =
-    let split : drop k text ≡ get_or text k 0 ∷ drop (k + 1) text = drop_more text k 0 lt in
-    rw (split, bad) at before
-
-pub signs_end : (text : List ℕ) (k b : ℕ) → length text ≤ k → IsReadTo text k b → Some (signs_of_number k b) ≡ all_some sign_of text
-signs_end text k b all before =
-    let none : drop k text ≡ [] = drop_all k text all in
-    let here = rw none at before in
-    ap Some (sym (append-nil (signs_of_number k b))) ∙ here
 
 -- ---- what is printed is read
 

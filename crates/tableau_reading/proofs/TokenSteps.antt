@@ -15,13 +15,6 @@ with_digits ds (Err fault) = Err fault
 abbrev pub IsReadUpTo : SpaceType → List (List ℕ) → List (List ℕ) → ℕ → List ℕ → Type 0
 IsReadUpTo s all rest k w = with_digits (take k w) (digits_from s.cartan (k + 1) (drop k s.factors) rest) ≡ digits_from s.cartan 1 s.factors all
 
-pub read_begins : (s : SpaceType) (all : List (List ℕ)) (w : List ℕ) → IsReadUpTo s all all 0 w
-read_begins s all w = same (digits_from s.cartan 1 s.factors all)
-  where
-    same : (r : Result (List ℕ) WordFault) → with_digits [] r ≡ r
-    same (Ok es) = refl
-    same (Err fault) = refl
-
 further : (ds : List ℕ) (d : ℕ) (r : Result (List ℕ) WordFault) → with_digits (ds ++ d ∷ []) r ≡ with_digits ds (with_digit d r)
 further ds d (Ok es) = ap Ok (append_assoc ds (d ∷ []) es)
 further ds d (Err fault) = refl

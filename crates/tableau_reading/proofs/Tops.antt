@@ -9,9 +9,9 @@ use Rattle.crystal_cartan.specs.declared.types.Kind.{Kind}
 use Rattle.crystal_cartan.specs.declared.types.Kind.TheVariants.{A, B, C, D}
 use Rattle.vector_crystals.specs.Letters.{letter_count, letter_count_of}
 use Rattle.crystal_cartan.specs.Weights.{IsSmall, IsSmallCoordinate}
-use Rattle.tensor_words.proofs.Sums.{All-weight_from}
 use Rattle.tableau_reading.specs.Shapes.{ShapeType, IsShape, shape_weight}
 use Rattle.tableau_reading.proofs.Rows.{few_boxes, row_within}
+use Rattle.crystal_cartan.proofs.Bounds.{All-weight_from}
 
 row_few : (s : ShapeType) (r : ℕ) → IsShape s → get_or s.rows r 0 ≤ 40
 row_few s r h = elim (cases_lt r (length s.rows)) [

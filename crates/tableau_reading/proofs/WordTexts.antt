@@ -13,7 +13,7 @@ use Rattle.vector_crystals.proofs.Tables.{all_ranks, ranks_at}
 use Rattle.spin_crystals.specs.Signs.{has_half, half_size, signs_at}
 use Rattle.spin_crystals.specs.declared.signs.Half.{Half}
 use Rattle.spin_crystals.specs.declared.signs.Half.TheVariants.{Whole, Plus, Minus}
-use Rattle.spin_crystals.proofs.Places.{length-signs_at, rank_positive}
+use Rattle.spin_crystals.proofs.Places.{length-signs_at}
 use Rattle.tensor_words.specs.declared.spaces.Factor.{Factor}
 use Rattle.tensor_words.specs.declared.spaces.Factor.TheVariants.{Vector, Spin, SpinPlus, SpinMinus}
 use Rattle.tensor_words.specs.Spaces.{SpaceType, IsSpace, has_factor, base_size, size, product, factor_at}
@@ -27,6 +27,7 @@ use Rattle.tableau_reading.specs.Tokens.{token_digit, digits_from, word_read}
 use Rattle.tableau_reading.proofs.SignTexts.{half_back, signs_are_word}
 use Rattle.tableau_reading.proofs.LetterTexts.{letter_text}
 use Rattle.tableau_reading.proofs.Spacing.{total_length, spaced_length}
+use Rattle.crystal_cartan.proofs.Ranks.{rank_positive}
 
 -- ---- the tokens of a word
 

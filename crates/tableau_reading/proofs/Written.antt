@@ -9,9 +9,6 @@ use Rattle.tableau_reading.specs.Readings.{Box, box}
 pub record IsWrittenTo (f : Box → ℕ) (bs : List Box) (n : ℕ) (w : List ℕ) : Type 0 where
   pub at : (k : ℕ) → k < n → get_or w k 0 ≡ f (get_or bs k (box 0 0))
 
-pub written_none : (f : Box → ℕ) (bs : List Box) (w : List ℕ) → IsWrittenTo f bs 0 w
-written_none f bs w = record { at = λ k lt. absurd (omega arith) }
-
 pub written_more :
     (f : Box → ℕ) (bs : List Box) (n : ℕ) (w v : List ℕ) (x : ℕ) → n < length w → x ≡ f (get_or bs n (box 0 0)) → v ≡ set w n x →
     IsWrittenTo f bs n w → IsWrittenTo f bs (n + 1) v

@@ -2,10 +2,8 @@
 use Rattle.std.proofs.Common.{◌≡◌, ◌∙◌, sym, ap, ℕ, ◌+◌, ◌≤◌, ◌<◌, IsTrue, length, Some, arith}
 use Rattle.std.proofs.Common.{inl, inr}
 use Rattle.std.proofs.lemmas.Bool.{cases_lt}
-use Rattle.crystal_cartan.specs.Types.{CartanType, IsCartan, HasIndex, coordinates, least_rank}
+use Rattle.crystal_cartan.specs.Types.{CartanType, IsCartan, HasIndex, coordinates}
 use Rattle.crystal_cartan.specs.Seminormal.{IsSeminormal}
-use Rattle.crystal_cartan.specs.declared.types.Kind.{Kind}
-use Rattle.crystal_cartan.specs.declared.types.Kind.TheVariants.{A, B, C, D}
 use Rattle.crystal_cartan.proofs.Coordinates.{length-weight_from}
 use Rattle.vector_crystals.specs.Letters.{letter_at}
 use Rattle.vector_crystals.specs.VectorCrystals.{letter_weight}
@@ -20,21 +18,13 @@ use Rattle.tensor_words.specs.declared.spaces.Factor.{Factor}
 use Rattle.tensor_words.specs.declared.spaces.Factor.TheVariants.{Vector, Spin, SpinPlus, SpinMinus}
 use Rattle.tensor_words.specs.Spaces.{has_factor, base_size, base_action, base_weight}
 use Rattle.tensor_words.proofs.RaisingFalls.{vector_raise_falls, spin_raise_not_above}
+use Rattle.crystal_cartan.proofs.Ranks.{rank_positive}
 
 -- what one index does at a digit of a factor: the laws of a seminormal crystal, a weight of the type, and raising to a smaller digit
 pub record IsLawfulDigit (t : CartanType) (i : ℕ) (f : Factor) (d : ℕ) : Type 0 where
   pub seminormal : IsSeminormal t i (base_action t i f) (base_weight t f) d
   pub size : length (base_weight t f d) ≡ coordinates t
   pub raise_falls : (e : ℕ) → (base_action t i f).raise d ≡ Some e → e < d
-
-rank_positive : (t : CartanType) → IsCartan t → 1 ≤ t.rank
-rank_positive t c = omega (arith, least t.kind, c.low)
-  where
-    least : (k : Kind) → 1 ≤ least_rank k
-    least A = omega arith
-    least B = omega arith
-    least C = omega arith
-    least D = omega arith
 
 letter_size : (t : CartanType) (d : ℕ) → length (letter_weight t (letter_at t d)) ≡ coordinates t
 unfolding letter_weight

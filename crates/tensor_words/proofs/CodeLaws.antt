@@ -2,9 +2,10 @@
 use Rattle.std.proofs.Common.{◌≡◌, ap, refl, ℕ, ◌+◌, ◌*◌, ◌<◌, ◌==◌, nat_lt, ◌&&◌, ◌||◌, Bool, true, false, IsTrue, List, [], ◌∷◌, ◌↔◌, inl, inr, arith}
 use Rattle.std.proofs.lemmas.Bool.{cases_lt, cases_eq}
 use Rattle.std.proofs.lemmas.Bool.Decides.{nat_tests}
+use Rattle.list_facts.proofs.Numbers.{in_row}
 use Rattle.tensor_words.specs.Spaces.{product, sizes}
 use Rattle.tensor_words.specs.Codes.{AreDigits, code, code_of, word_of, is_before, CodesCorrespond, CodesAreLexicographic}
-use Rattle.tensor_words.proofs.Digits.{row_below, code_in_range, word-code, code-word, AreDigits-word}
+use Rattle.tensor_words.proofs.Digits.{code_in_range, word-code, code-word, AreDigits-word}
 
 pub codes_correspond : CodesCorrespond
 unfolding code_of word_of
@@ -17,7 +18,7 @@ first_digit d e c c' p before low low' rest =
     elim (cases_lt d e) [
       | inl below ↦
           let test : nat_lt d e ≡ true = grind (arith, nat_tests) in
-          let rows : d * p + c < e * p = row_below d e p c below low in
+          let rows : d * p + c < e * p = in_row d e p c below low in
           rw test (λ h. refl, λ h. omega (arith, rows))
       | inr least ↦
           let test : nat_lt d e ≡ false = grind (arith, nat_tests) in
@@ -28,7 +29,7 @@ first_digit d e c c' p before low low' rest =
                 rw same (λ h. rest.0 (omega (arith, rows)), λ h. omega (arith, rows, rest.1 h))
             | inr other ↦
                 let same : (d == e) ≡ false = grind (arith, nat_tests) in
-                let rows : e * p + c' < d * p = row_below e d p c' (omega arith) low' in
+                let rows : e * p + c' < d * p = in_row e d p c' (omega arith) low' in
                 rw same (λ h. absurd (omega (arith, rows)), λ h. cc)
           ])
     ]

@@ -1,20 +1,18 @@
 -- Digits of a number in mixed radix: a word and its code determine each other.
-use Rattle.std.proofs.Common.{◌≡◌, ◌∙◌, sym, ap, refl, ℕ, zero, suc, ◌+◌, ◌*◌, ◌/◌, ◌%◌, ◌≤◌, ◌<◌, List, [], ◌∷◌, length, drop, replicate, get_or, set, arith, length-set}
+use Rattle.std.proofs.Common.{◌≡◌, ◌∙◌, sym, ap, refl, ℕ, zero, suc, ◌+◌, ◌*◌, ◌/◌, ◌%◌, ◌≤◌, ◌<◌, List, [], ◌∷◌, length, drop, get_or, set, arith, length-set}
 use Rattle.std.proofs.Math.Nat.{div-lt_iff_lt-mul, mod-lt, mul-le-mul_left}
-use Rattle.std.proofs.lemmas.Nat.{div-mul-add, mod-mul-add, div-add-mod', rows}
-use Rattle.std.proofs.lemmas.Grind.{common_steps, drop-set_at}
-use Rattle.std.proofs.lemmas.List.{drop_more, drop_all, length-replicate}
+use Rattle.std.proofs.lemmas.Nat.{div-mul-add, mod-mul-add, div-add-mod'}
+use Rattle.std.proofs.lemmas.Grind.{drop-set_at}
+use Rattle.std.proofs.lemmas.List.{drop_more}
+use Rattle.list_facts.proofs.Numbers.{in_row}
 use Rattle.tensor_words.specs.Spaces.{product}
 use Rattle.tensor_words.specs.Codes.{AreDigits, code, word}
-
-pub row_below : (d b p c : ℕ) → d < b → c < p → d * p + c < b * p
-row_below d b p c h k = grind (arith, common_steps, rows)
 
 pub code_in_range : (bs ds : List ℕ) → AreDigits bs ds → code bs ds < product bs
 code_in_range [] [] h = omega arith
 code_in_range [] (d ∷ ds) h = absurd h
 code_in_range (b ∷ bs) [] h = absurd h
-code_in_range (b ∷ bs) (d ∷ ds) h = row_below d b (product bs) (code bs ds) h.0 (code_in_range bs ds h.1)
+code_in_range (b ∷ bs) (d ∷ ds) h = in_row d b (product bs) (code bs ds) h.0 (code_in_range bs ds h.1)
 
 -- the word of the code of digits
 pub word-code : (bs ds : List ℕ) → AreDigits bs ds → word bs (code bs ds) ≡ ds
@@ -99,18 +97,6 @@ pub record IsWritten (bs ds : List ℕ) (k n total : ℕ) : Type 0 where
   pub size : length ds ≡ length bs
   pub digits : AreDigits (drop k bs) (drop k ds)
   pub whole : n * product (drop k bs) + code (drop k bs) (drop k ds) ≡ total
-
-pub written_start : (bs : List ℕ) (k n : ℕ) → k ≡ length bs → IsWritten bs (replicate k 0) k n n
-written_start bs k n e =
-    let none : drop k bs ≡ [] = drop_all k bs (omega arith) in
-    let zeros : List ℕ = replicate k 0 in
-    let bare : drop k zeros ≡ [] = drop_all k zeros (omega (arith, length-replicate {A = ℕ} k 0)) in
-    record {
-      fits = omega arith;
-      size = length-replicate k 0 ∙ e;
-      digits = rw (none, bare) tt;
-      whole = rw none (omega arith);
-    }
 
 -- one digit more
 pub written_more :

@@ -1,10 +1,10 @@
 -- An operator of a word acts on one factor.
-use Rattle.std.proofs.Common.{◌≡◌, nat_le, nat_lt, if◌then◌else◌, Bool, true, false, List, [], ◌∷◌, Option, Some, ◌⊎◌, inl, inr}
+use Rattle.std.proofs.Common.{◌≡◌, refl, sym, ◌∙◌, map, nat_le, nat_lt, if◌then◌else◌, Bool, List, [], ◌∷◌, Option, Some, ◌⊎◌, inl, inr}
 use Rattle.std.specs.Option.{option_map}
 use Rattle.crystal_cartan.specs.Crystals.{Action}
 use Rattle.tensor_words.specs.declared.spaces.Order.{Order}
 use Rattle.tensor_words.specs.declared.spaces.Order.TheVariants.{Standard, Kashiwara}
-use Rattle.tensor_words.specs.TensorRule.{word_phi, word_lower, word_raise, kashiwara_eps, kashiwara_lower, kashiwara_raise, action_in}
+use Rattle.tensor_words.specs.TensorRule.{word_phi, word_lower, word_raise, turned, action_in}
 use Rattle.tensor_words.proofs.WordLaws.{first_step}
 
 -- v is w after this step of one factor
@@ -30,12 +30,6 @@ first_or_rest step act acts b r x w v later h =
       | inr (z, t, l, e) ↦ inr (z, later z l, e)
     ]
 
-rest_or_first : {E : Type 0} (step : Action E → E → Option E) (act : Action E) (acts : List (Action E)) (b : Bool) (r : Option (List E)) (x : E) (w v : List E)
-    → ((z : List E) → r ≡ Some z → IsFactorStep step acts w z)
-    → (if b then option_map (λ z. x ∷ z) r else option_map (λ z. z ∷ w) (step act x)) ≡ Some v → IsFactorStep step (act ∷ acts) (x ∷ w) v
-rest_or_first step act acts true r x w v later h = first_or_rest step act acts false r x w v later h
-rest_or_first step act acts false r x w v later h = first_or_rest step act acts true r x w v later h
-
 standard_lower : {E : Type 0} (acts : List (Action E)) (w v : List E) → word_lower acts w ≡ Some v → IsFactorStep lowering acts w v
 standard_lower [] w v h = cc
 standard_lower (act ∷ acts) [] v h = cc
@@ -48,22 +42,21 @@ standard_raise (act ∷ acts) [] v h = cc
 standard_raise (act ∷ acts) (x ∷ w) v h =
     first_or_rest raising act acts (nat_lt (word_phi acts w) (act.eps x)) (word_raise acts w) x w v (λ z made. standard_raise acts w z made) h
 
-other_lower : {E : Type 0} (acts : List (Action E)) (w v : List E) → kashiwara_lower acts w ≡ Some v → IsFactorStep lowering acts w v
-other_lower [] w v h = cc
-other_lower (act ∷ acts) [] v h = cc
-other_lower (act ∷ acts) (x ∷ w) v h =
-    rest_or_first lowering act acts (nat_le (act.phi x) (kashiwara_eps acts w)) (kashiwara_lower acts w) x w v (λ z made. other_lower acts w z made) h
-
-other_raise : {E : Type 0} (acts : List (Action E)) (w v : List E) → kashiwara_raise acts w ≡ Some v → IsFactorStep raising acts w v
-other_raise [] w v h = cc
-other_raise (act ∷ acts) [] v h = cc
-other_raise (act ∷ acts) (x ∷ w) v h =
-    rest_or_first raising act acts (nat_lt (act.phi x) (kashiwara_eps acts w)) (kashiwara_raise acts w) x w v (λ z made. other_raise acts w z made) h
+-- a step of one turned factor is the other step of that factor
+turned_step : {E : Type 0} (step other : Action E → E → Option E) → ((act : Action E) (x : E) → step (turned act) x ≡ other act x)
+    → (acts : List (Action E)) (w v : List E) → IsFactorStep step (map turned acts) w v → IsFactorStep other acts w v
+turned_step step other same [] w v h = absurd h
+turned_step step other same (act ∷ acts) [] v h = absurd h
+turned_step step other same (act ∷ acts) (x ∷ w) v h =
+    elim h [
+      | inl (z, made, e) ↦ inl (z, sym (same act x) ∙ made, e)
+      | inr (z, later, e) ↦ inr (z, turned_step step other same acts w z later, e)
+    ]
 
 pub lowered_step : {E : Type 0} (o : Order) (acts : List (Action E)) (w v : List E) → (action_in o acts).lower w ≡ Some v → IsFactorStep lowering acts w v
 lowered_step Standard acts w v h = standard_lower acts w v h
-lowered_step Kashiwara acts w v h = other_lower acts w v h
+lowered_step Kashiwara acts w v h = turned_step raising lowering (λ act x. refl) acts w v (standard_raise (map turned acts) w v h)
 
 pub raised_step : {E : Type 0} (o : Order) (acts : List (Action E)) (w v : List E) → (action_in o acts).raise w ≡ Some v → IsFactorStep raising acts w v
 raised_step Standard acts w v h = standard_raise acts w v h
-raised_step Kashiwara acts w v h = other_raise acts w v h
+raised_step Kashiwara acts w v h = turned_step lowering raising (λ act x. refl) acts w v (standard_lower (map turned acts) w v h)

@@ -2,12 +2,12 @@
 use Rattle.std.proofs.Common.{◌≡◌, sym, ap, refl, subst, ℕ, ◌<◌, IsTrue, Bool, true, false, List, [], ◌∷◌, map, Option, Some, None, IfSome, ℤ, inl, inr}
 use Rattle.std.specs.List.{list_all}
 use Rattle.std.specs.Option.{option_map}
+use Rattle.list_facts.proofs.Truth.{first_true, second_true}
 use Rattle.crystal_cartan.specs.Types.{CartanType, IsCartan, HasIndex}
 use Rattle.crystal_cartan.specs.Crystals.{Action}
 use Rattle.crystal_cartan.specs.declared.types.Arrow.{Arrow}
 use Rattle.vector_crystals.specs.Letters.{IsLetter, letter_count, letter_digit, letter_at}
 use Rattle.vector_crystals.specs.VectorCrystals.{digit_action, letter_action}
-use Rattle.vector_crystals.proofs.Tables.{and_left, and_right}
 use Rattle.vector_crystals.proofs.Digits.{letter_at-letter, letter_digit-below}
 use Rattle.vector_crystals.proofs.Rules.{lower-letter, raise-letter}
 use Rattle.spin_crystals.specs.declared.signs.Half.TheVariants.{Whole, Plus, Minus}
@@ -68,8 +68,8 @@ step_digits step t i [] w u each had h is = absurd is
 step_digits step t i (f ∷ fs) [] u each had h is = absurd h
 step_digits step t i (f ∷ fs) (d ∷ ds) u each had h is =
     elim is [
-      | inl (e, made, same) ↦ rw same (each f d e (and_left _ _ had) h.0 made, h.1)
-      | inr (v, made, same) ↦ rw same (h.0, step_digits step t i fs ds v each (and_right (has_factor t.kind f) _ had) h.1 made)
+      | inl (e, made, same) ↦ rw same (each f d e (first_true _ _ had) h.0 made, h.1)
+      | inr (v, made, same) ↦ rw same (h.0, step_digits step t i fs ds v each (second_true (has_factor t.kind f) _ had) h.1 made)
     ]
 
 pub lower_keeps : (s : SpaceType) (i : ℕ) (w u : List ℕ) → HasFactors s → HasIndex s.cartan i → IsWord s w → (action s i).lower w ≡ Some u → IsWord s u

@@ -6,7 +6,7 @@ use Rattle.crystal_cartan.specs.Types.{CartanType, IsCartan, HasIndex}
 use Rattle.crystal_cartan.specs.declared.types.Kind.{Kind}
 use Rattle.crystal_cartan.specs.declared.types.Kind.TheVariants.{A, B, C, D}
 use Rattle.vector_crystals.specs.Letters.{letter_count_of}
-pub use Rattle.vector_crystals.proofs.Tables.{and_left as both_left, and_right as both_right}
+use Rattle.list_facts.proofs.Truth.{first_true, second_true}
 use Rattle.tensor_words.specs.declared.spaces.Factor.{Factor}
 use Rattle.tensor_words.specs.declared.spaces.Factor.TheVariants.{Vector, Spin, SpinPlus, SpinMinus}
 use Rattle.tensor_words.specs.Spaces.{SpaceType, HasFactors, IsSpace, has_factor, base_size, base_action, product}
@@ -21,13 +21,13 @@ factors_of_space s space = record { cartan = space.cartan; had = space.had }
 
 -- the factors from one on
 pub other_factors : (t : CartanType) (f : Factor) (fs : List Factor) → IsTrue (list_all (has_factor t.kind) (f ∷ fs)) → IsTrue (list_all (has_factor t.kind) fs)
-other_factors t f fs had = both_right (has_factor t.kind f) (list_all (has_factor t.kind) fs) had
+other_factors t f fs had = second_true (has_factor t.kind f) (list_all (has_factor t.kind) fs) had
 
 -- the digit of the first factor
 pub first_digit_laws : (t : CartanType) (i : ℕ) (f : Factor) (fs : List Factor) (d : ℕ) → IsCartan t → HasIndex t i
     → IsTrue (list_all (has_factor t.kind) (f ∷ fs)) → d < base_size t f → IsLawfulDigit t i f d
 first_digit_laws t i f fs d c index had below =
-    digit_laws t i f d c index (both_left (has_factor t.kind f) (list_all (has_factor t.kind) fs) had) below
+    digit_laws t i f d c index (first_true (has_factor t.kind f) (list_all (has_factor t.kind) fs) had) below
 
 abbrev pub digit_sum : List ℕ → ℕ
 digit_sum [] = 0

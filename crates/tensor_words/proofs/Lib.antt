@@ -10,7 +10,6 @@ pub mod Sums
 pub mod WordLaws
 pub mod FactorSteps
 pub mod Turned
-pub mod KashiwaraSteps
 pub mod Keeps
 pub mod RaisingFalls
 pub mod CodeLaws

@@ -1,5 +1,5 @@
 -- The tables of a space: codes by differences, and words from the left.
-use Rattle.std.proofs.Common.{◌≡◌, ◌∙◌, sym, ap, refl, ℕ, zero, suc, ◌+◌, ◌-◌, ◌*◌, ◌/◌, ◌%◌, ◌^◌, ◌≤◌, ◌<◌, List, [], ◌∷◌, ◌++◌, length, take, drop, map, replicate, get_or, set, inl, inr, append_assoc, add-one, arith, length-set}
+use Rattle.std.proofs.Common.{◌≡◌, ◌∙◌, sym, ap, refl, subst, ℕ, zero, suc, ◌+◌, ◌-◌, ◌*◌, ◌/◌, ◌%◌, ◌^◌, ◌≤◌, ◌<◌, List, [], ◌∷◌, ◌++◌, length, take, drop, map, replicate, get_or, set, inl, inr, append_assoc, add-one, arith, length-set}
 use Rattle.std.proofs.Math.Nat.{div-lt_iff_lt-mul, mod-lt, mul-le-mul_right}
 use Rattle.std.proofs.Math.Seq.{take-suc-set, get_or-append_seam}
 use Rattle.std.proofs.lemmas.Bool.{cases_lt}
@@ -13,7 +13,7 @@ use Rattle.tensor_words.specs.declared.tables.Row.{Row}
 use Rattle.tensor_words.specs.Spaces.{SpaceType, IsSpace, base_size, sizes, size, size_at, product}
 use Rattle.tensor_words.specs.Codes.{AreDigits, IsWord, code, word, code_of}
 use Rattle.tensor_words.specs.Steps.{IsRow}
-use Rattle.tensor_words.specs.Tables.{place_value, no_row, IsRowAt, AreRows}
+use Rattle.tensor_words.specs.Tables.{place_value, AreValues, no_row, IsRowAt, AreRows}
 use Rattle.tensor_words.proofs.Digits.{factor_positive}
 use Rattle.tensor_words.proofs.Sizes.{base_positive}
 use Rattle.tensor_words.proofs.SpaceWords.{length_sizes, sizes_at, length_word, IsWord-set, code_below}
@@ -46,7 +46,7 @@ pub record IsMoved (s : SpaceType) (w : List ℕ) (k v d n : ℕ) : Type 0 where
   pub value : n - get_or w k 0 * v + d * v ≡ code_of s (set w k d)
   pub below : n - get_or w k 0 * v + d * v < size s
 
-pub moved_code :
+moved_code :
     (s : SpaceType) (w : List ℕ) (k v d n : ℕ) → IsWord s w → n ≡ code_of s w → k < length s.factors → v ≡ place_value s k → d < size_at s k → IsMoved s w k v d n
 unfolding code_of
 moved_code s w k v d n h is lt value below =
@@ -67,6 +67,13 @@ moved_code s w k v d n h is lt value below =
       below = omega arith;
     }
 
+-- the same where the values are those of the space, and that it is narrow
+pub moved_by : {s inside : SpaceType} {values w : List ℕ} {k d n : ℕ} → AreValues inside values → inside ≡ s → IsWord s w → n ≡ code_of s w → k < length s.factors → d < size_at s k
+    → IsMoved s w k (get_or values k 0) d n × (size s ≤ 2 ^ 63)
+moved_by {s} {inside} {values} {w} {k} {d} {n} are same word code place digit =
+    let here : AreValues s values = subst (λ x. AreValues x values) same are in
+    (moved_code s w k (get_or values k 0) d n word code place (here.each k place) digit, here.space.narrow)
+
 -- the digits before the place k are split off from the number, and `rest` is left of it
 pub record IsSplit (bs ds : List ℕ) (k rest total : ℕ) : Type 0 where
   pub fits : k ≤ length bs
@@ -75,9 +82,6 @@ pub record IsSplit (bs ds : List ℕ) (k rest total : ℕ) : Type 0 where
   pub below : rest < product (drop k bs)
   pub blank : drop k ds ≡ replicate (40 - k) 0
   pub read : take k ds ++ word (drop k bs) rest ≡ word bs total
-
-pub split_start : (bs : List ℕ) (total : ℕ) → length bs ≤ 40 → total < product bs → IsSplit bs (replicate 40 0) 0 total total
-split_start bs total few below = record { fits = omega arith; few = few; whole = refl; below = below; blank = refl; read = refl }
 
 -- one digit more
 pub record IsDigitOf (bs : List ℕ) (k rest q v : ℕ) : Type 0 where

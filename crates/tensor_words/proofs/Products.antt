@@ -5,6 +5,7 @@ use Rattle.std.specs.Option.{option_map}
 use Rattle.std.proofs.lemmas.Bool.{cases_lt}
 use Rattle.std.proofs.lemmas.Bool.Decides.{nat_tests}
 use Rattle.std.proofs.lemmas.List.{map-append, length-map}
+use Rattle.list_facts.proofs.Truth.{first_true, second_true}
 use Rattle.crystal_cartan.specs.Types.{CartanType}
 use Rattle.crystal_cartan.specs.Crystals.{Action}
 use Rattle.tensor_words.specs.declared.spaces.Factor.{Factor}
@@ -12,11 +13,10 @@ use Rattle.tensor_words.specs.declared.spaces.Order.{Order}
 use Rattle.tensor_words.specs.declared.spaces.Order.TheVariants.{Standard, Kashiwara}
 use Rattle.tensor_words.specs.Spaces.{HasFactors, tensor_space, has_factor, product, base_size, base_action}
 use Rattle.tensor_words.specs.Codes.{AreDigits, code, code_of}
-use Rattle.tensor_words.specs.TensorRule.{word_phi, word_eps, word_lower, word_raise, word_action, kashiwara_action, action_in, action, turned}
+use Rattle.tensor_words.specs.TensorRule.{word_phi, word_eps, word_lower, word_raise, word_action, action_in, action, turned}
 use Rattle.tensor_words.specs.Laws.{IsStandardProduct, IsKashiwaraProduct, IsProduct, ProductRule, CodesOfProducts}
-use Rattle.tensor_words.proofs.KeptWords.{both_left, both_right}
 use Rattle.tensor_words.proofs.Digits.{length_digits}
-use Rattle.tensor_words.proofs.Turned.{all_turned, either_way, turned_eps, turned_phi, turned_lower, turned_raise, all_steady_turned}
+use Rattle.tensor_words.proofs.Turned.{either_way, all_steady_turned}
 use Rattle.tensor_words.proofs.WordLaws.{AreSteady, word_steady}
 use Rattle.tensor_words.proofs.WordWeights.{along_steady}
 
@@ -96,29 +96,23 @@ standard_product (p ∷ ps) qs (d ∷ x) y size ends =
       raise = rw (rest.phi, rest.raise) (cons_product _ _ _ _ (p.raise d) (word_raise ps x) (word_raise qs y) d x y (raise_tests (p.eps d) (word_phi ps x) (word_eps ps x) (word_phi qs y)));
     }
 
-pub kashiwara_product : {E : Type 0} (ps qs : List (Action E)) (x y : List E) → length x ≡ length ps → (word_phi (all_turned qs) y ≡ 0 → word_lower (all_turned qs) y ≡ None)
-    → IsKashiwaraProduct (kashiwara_action ps) (kashiwara_action qs) (kashiwara_action (ps ++ qs)) x y
-kashiwara_product {E} ps qs x y size ends =
-    let ps' : List (Action E) = all_turned ps in
-    let qs' : List (Action E) = all_turned qs in
-    let joined : all_turned (ps ++ qs) ≡ ps' ++ qs' = map-append turned ps qs in
-    let same : length x ≡ length ps' = omega (arith, length-map ps turned) in
-    let p = standard_product ps' qs' x y same ends in
-    record {
-      phi = rw (turned_phi (ps ++ qs) (x ++ y), turned_phi ps x, turned_phi qs y, turned_eps qs y, joined) p.eps;
-      eps = rw (turned_eps (ps ++ qs) (x ++ y), turned_eps ps x, turned_eps qs y, turned_phi ps x, joined) p.phi;
-      lower =
-          rw (turned_lower (ps ++ qs) (x ++ y), turned_lower ps x, turned_lower qs y, turned_phi ps x, turned_eps qs y, joined)
-          (p.raise ∙ sym (either_way (word_eps ps' x) (word_phi qs' y) (option_map (λ z. x ++ z) (word_raise qs' y)) (option_map (λ z. z ++ y) (word_raise ps' x))));
-      raise =
-          rw (turned_raise (ps ++ qs) (x ++ y), turned_raise ps x, turned_raise qs y, turned_phi ps x, turned_eps qs y, joined)
-          (p.lower ∙ either_way (word_phi qs' y) (word_eps ps' x) (option_map (λ z. z ++ y) (word_lower ps' x)) (option_map (λ z. x ++ z) (word_lower qs' y)));
-    }
+-- with all actions turned it is the rule of Kashiwara's order
+turned_product : {E : Type 0} (a b both : Action (List E)) (x y : List E) → IsStandardProduct a b both x y → IsKashiwaraProduct (turned a) (turned b) (turned both) x y
+turned_product a b both x y p = record {
+  phi = p.eps;
+  eps = p.phi;
+  lower = p.raise ∙ sym (either_way (a.eps x) (b.phi y) (option_map (λ z. x ++ z) (b.raise y)) (option_map (λ z. z ++ y) (a.raise x)));
+  raise = p.lower ∙ either_way (b.phi y) (a.eps x) (option_map (λ z. z ++ y) (a.lower x)) (option_map (λ z. x ++ z) (b.lower y));
+}
 
 pub product_of : {E : Type 0} (o : Order) (ps qs : List (Action E)) (x y : List E) → length x ≡ length ps → AreSteady qs y
     → IsProduct o (action_in o ps) (action_in o qs) (action_in o (ps ++ qs)) x y
 product_of Standard ps qs x y size steady = standard_product ps qs x y size (word_steady qs y steady).lower_ends.1
-product_of Kashiwara ps qs x y size steady = kashiwara_product ps qs x y size (word_steady (all_turned qs) y (all_steady_turned qs y steady)).lower_ends.1
+product_of Kashiwara ps qs x y size steady =
+    let same : length x ≡ length (map turned ps) = omega (arith, length-map ps turned) in
+    let ends = (word_steady (map turned qs) y (all_steady_turned qs y steady)).lower_ends.1 in
+    rw (map-append turned ps qs)
+    (turned_product _ _ _ x y (standard_product (map turned ps) (map turned qs) x y same ends))
 
 pub product_rule : ProductRule
 unfolding action
@@ -159,5 +153,5 @@ factors_joined t fs gs had other = record { cartan = had.cartan; had = joined fs
     joined : (es : List Factor) → IsTrue (list_all (has_factor t.kind) es) → IsTrue (list_all (has_factor t.kind) (es ++ gs))
     joined [] all = other.had
     joined (e ∷ es) all =
-        let first : has_factor t.kind e ≡ true = both_left (has_factor t.kind e) _ all in
-        rw first (joined es (both_right (has_factor t.kind e) _ all))
+        let first : has_factor t.kind e ≡ true = first_true (has_factor t.kind e) _ all in
+        rw first (joined es (second_true (has_factor t.kind e) _ all))

@@ -2,7 +2,6 @@
 use Rattle.std.proofs.Common.{◌≡◌, ◌∙◌, sym, ap, refl, subst, ℕ, zero, suc, ◌+◌, ◌-◌, ◌≤◌, ◌<◌, ◌^◌, min, nat_lt, Bool, true, false, List, [], ◌∷◌, ◌++◌, length, take, ℤ, int_eq, Some, None, arith, length-append}
 use Rattle.std.specs.List.{position_or_len}
 use Rattle.std.specs.Option.{option_map}
-use Rattle.std.proofs.Math.Nat.{pow-suc}
 use Rattle.std.proofs.lemmas.Bool.Decides.{nat_tests}
 use Rattle.std.proofs.lemmas.List.{length-take, take_all}
 use Rattle.crystal_cartan.specs.Types.{CartanType, IsCartan, HasIndex}
@@ -18,7 +17,7 @@ use Rattle.spin_crystals.specs.Signs.{plus, minus, HasHalf, half_size, number_of
 use Rattle.spin_crystals.specs.SpinCrystals.{signs_action, spin_digit_action}
 use Rattle.spin_crystals.specs.declared.signs.Half.{Half}
 use Rattle.spin_crystals.specs.declared.signs.Half.TheVariants.{Whole, Plus, Minus}
-use Rattle.spin_crystals.proofs.DigitLaws.{spin_from_half}
+use Rattle.spin_crystals.proofs.DigitLaws.{spin_from_half, number_below}
 use Rattle.spin_crystals.proofs.Edges.{change, changed, last_change, raise-change}
 use Rattle.spin_crystals.proofs.Places.{signs_digit-at, length-signs_at}
 use Rattle.spin_crystals.proofs.Strings.{IsReplacement, replaced_some}
@@ -57,11 +56,6 @@ vector_raise_falls t i d e c index below is =
     ] refl is
 
 -- ---- vectors of signs
-
-number_below : (v : List Bool) → number_of_signs v < 2 ^ length v
-number_below [] = omega arith
-number_below (true ∷ v) = omega (arith, number_below v, pow-suc 2 (length v))
-number_below (false ∷ v) = omega (arith, number_below v, pow-suc 2 (length v))
 
 number_at_plus : (n : ℕ) (p q : List Bool) → length p ≡ length q → number_of_signs (take n (plus ∷ p)) ≤ number_of_signs (take n (minus ∷ q))
 number_at_plus zero p q size = omega arith

@@ -4,17 +4,19 @@ use Rattle.std.specs.List.{list_all}
 use Rattle.std.specs.Option.{option_map}
 use Rattle.std.proofs.lemmas.Bool.Decides.{nat_tests}
 use Rattle.std.proofs.lemmas.List.{map-append, reverse-append, reverse-reverse, length-reverse}
+use Rattle.list_facts.proofs.Truth.{first_true}
 use Rattle.crystal_cartan.specs.Types.{CartanType}
 use Rattle.crystal_cartan.specs.Crystals.{Action}
 use Rattle.tensor_words.specs.declared.spaces.Factor.{Factor}
 use Rattle.tensor_words.specs.declared.spaces.Order.TheVariants.{Standard, Kashiwara}
 use Rattle.tensor_words.specs.Spaces.{HasFactors, tensor_space, has_factor, base_size, base_action}
-use Rattle.tensor_words.specs.TensorRule.{word_phi, word_lower, word_raise, word_action, kashiwara_action, action}
+use Rattle.tensor_words.specs.TensorRule.{word_phi, word_lower, word_raise, word_action, turned, action_in, action}
 use Rattle.tensor_words.specs.Operators.{OneFactorRule}
 use Rattle.tensor_words.specs.Codes.{AreDigits}
 use Rattle.tensor_words.specs.Laws.{IsStandardProduct, IsReversal, LawOfReversal, WordsReversed}
-use Rattle.tensor_words.proofs.KeptWords.{both_left, other_factors}
+use Rattle.tensor_words.proofs.KeptWords.{other_factors}
 use Rattle.tensor_words.proofs.Products.{standard_product, digits_joined, factors_joined}
+use Rattle.tensor_words.proofs.Turned.{either_way, steady_turned}
 use Rattle.tensor_words.proofs.WordLaws.{IsSteady, AreSteady}
 use Rattle.tensor_words.proofs.WordWeights.{along_steady, digit_steady}
 
@@ -25,9 +27,6 @@ pub map_reversed : {X Y : Type 0} (f : X → Y) (xs : List X) → map f (reverse
 map_reversed f [] = refl
 map_reversed f (x ∷ xs) =
     ap (map f) (reverse_first x xs) ∙ map-append f (reverse xs) (x ∷ []) ∙ ap (λ ys. ys ++ (f x ∷ [])) (map_reversed f xs) ∙ sym (reverse_first (f x) (map f xs))
-
-length_first : {X : Type 0} (ws : List X) (n : ℕ) → length ws ≡ n → length (reverse ws) ≡ n
-length_first ws n is = length-reverse ws ∙ is
 
 -- a step of the last factor, or of those before it, read from right to left
 read_back : {E : Type 0} (b : Bool) (before : Option (List E)) (last : Option E) (x : E) (w : List E)
@@ -53,12 +52,12 @@ module _ {E : Type 0} (act : Action E) (x : E) (steady : IsSteady act x) where
   one_ends : word_phi (act ∷ []) (x ∷ []) ≡ 0 → word_lower (act ∷ []) (x ∷ []) ≡ None
   one_ends is = let none : act.lower x ≡ None = steady.lower_ends.1 (omega arith) in one_lower ∙ ap (option_map (λ y. y ∷ [])) none
 
-pub reversal : {E : Type 0} (acts : List (Action E)) (w : List E) → AreSteady acts w → length w ≡ length acts → IsReversal (kashiwara_action acts) (word_action (reverse acts)) w
+pub reversal : {E : Type 0} (acts : List (Action E)) (w : List E) → AreSteady acts w → length w ≡ length acts → IsReversal (action_in Kashiwara acts) (word_action (reverse acts)) w
 reversal [] [] steady size = record { eps = refl; phi = refl; lower = refl; raise = refl }
 reversal [] (x ∷ w) steady size = absurd steady
 reversal (act ∷ acts) [] steady size = absurd steady
 reversal (act ∷ acts) (x ∷ w) steady size =
-    let rest : IsReversal (kashiwara_action acts) (word_action (reverse acts)) w = reversal acts w steady.1 (omega arith) in
+    let rest : IsReversal (action_in Kashiwara acts) (word_action (reverse acts)) w = reversal acts w steady.1 (omega arith) in
     let same : length (reverse w) ≡ length (reverse acts) = omega (arith, length-reverse w, length-reverse acts) in
     let p : IsStandardProduct (word_action (reverse acts)) (word_action (act ∷ [])) (word_action (reverse acts ++ (act ∷ []))) (reverse w) (x ∷ []) =
     standard_product (reverse acts) (act ∷ []) (reverse w) (x ∷ []) same (one_ends act x steady.0) in
@@ -66,8 +65,12 @@ reversal (act ∷ acts) (x ∷ w) steady size =
     rw (reverse_first act acts) (record {
       eps = rw (reverse_first x w) (omega (arith, p.eps, rest.eps));
       phi = rw (reverse_first x w) (omega (arith, p.phi, rest.phi, rest.eps));
-      lower = rw (reverse_first x w, p.lower, one_lower act x steady.0, last, rest.eps, rest.lower) (sym (read_back _ _ (act.lower x) x w));
-      raise = rw (reverse_first x w, p.raise, one_raise act x steady.0, last, rest.eps, rest.raise) (sym (read_back _ _ (act.raise x) x w));
+      lower =
+          sym (either_way (act.phi x) (word_phi (map turned acts) w) (option_map (λ z. x ∷ z) (word_raise (map turned acts) w)) (option_map (λ z. z ∷ w) (act.lower x)))
+          ∙ rw (reverse_first x w, p.lower, one_lower act x steady.0, last, rest.eps, rest.lower) (sym (read_back _ _ (act.lower x) x w));
+      raise =
+          either_way (word_phi (map turned acts) w) (act.phi x) (option_map (λ z. z ∷ w) (act.raise x)) (option_map (λ z. x ∷ z) (word_lower (map turned acts) w))
+          ∙ rw (reverse_first x w, p.raise, one_raise act x steady.0, last, rest.eps, rest.raise) (sym (read_back _ _ (act.raise x) x w));
     })
 
 -- one digit of a factor that the type has
@@ -77,19 +80,8 @@ one_factor_rule Standard t i f d c index had below =
     let steady : IsSteady (base_action t i f) d = digit_steady t i f d c index had below in
     record { eps = omega arith; phi = omega arith; lower = one_lower (base_action t i f) d steady; raise = one_raise (base_action t i f) d steady }
 one_factor_rule Kashiwara t i f d c index had below =
-    let steady : IsSteady (base_action t i f) d = digit_steady t i f d c index had below in
-    let r : IsReversal (kashiwara_action (base_action t i f ∷ [])) (word_action (base_action t i f ∷ [])) (d ∷ []) =
-    reversal (base_action t i f ∷ []) (d ∷ []) (steady, tt) refl in
-    record {
-      eps = omega arith;
-      phi = omega arith;
-      lower = r.lower ∙ ap (option_map reverse) (one_lower (base_action t i f) d steady) ∙ same ((base_action t i f).lower d);
-      raise = r.raise ∙ ap (option_map reverse) (one_raise (base_action t i f) d steady) ∙ same ((base_action t i f).raise d);
-    }
-  where
-    same : (o : Option ℕ) → option_map reverse (option_map (λ x. x ∷ []) o) ≡ option_map (λ x. x ∷ []) o
-    same None = refl
-    same (Some x) = refl
+    let steady : IsSteady (turned (base_action t i f)) d = steady_turned (base_action t i f) d (digit_steady t i f d c index had below) in
+    record { eps = omega arith; phi = omega arith; lower = one_raise (turned (base_action t i f)) d steady; raise = one_lower (turned (base_action t i f)) d steady }
 
 pub law_of_reversal : LawOfReversal
 unfolding action
@@ -107,7 +99,7 @@ reversed_factors : (t : CartanType) (fs : List Factor) → HasFactors (tensor_sp
 reversed_factors t [] had = had
 reversed_factors t (f ∷ fs) had =
     let rest : HasFactors (tensor_space t (reverse fs)) = reversed_factors t fs (record { cartan = had.cartan; had = other_factors t f fs had.had }) in
-    let first : HasFactors (tensor_space t (f ∷ [])) = record { cartan = had.cartan; had = alone f (both_left (has_factor t.kind f) _ had.had) } in
+    let first : HasFactors (tensor_space t (f ∷ [])) = record { cartan = had.cartan; had = alone f (first_true (has_factor t.kind f) _ had.had) } in
     rw (reverse_first f fs) (factors_joined t (reverse fs) (f ∷ []) rest first)
   where
     alone : (g : Factor) → IsTrue (has_factor t.kind g) → IsTrue (list_all (has_factor t.kind) (g ∷ []))

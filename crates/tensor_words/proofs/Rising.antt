@@ -1,39 +1,29 @@
 -- The scans of a world's roots.
-use Rattle.std.proofs.Common.{◌≡◌, ◌∙◌, refl, ℕ, zero, suc, ◌+◌, ◌<◌, ◌≤◌, ◌↔◌, inl, inr, nat_lt, Bool, true, false, if◌then◌else◌, IsTrue, List, [], ◌∷◌, length, get_or, Some, None, Result, Ok, Err, MatchResult, All, Contains, arith}
+use Rattle.std.proofs.Common.{◌≡◌, ◌∙◌, refl, ℕ, ◌+◌, ◌<◌, ◌≤◌, ◌↔◌, inl, inr, nat_lt, Bool, true, false, if◌then◌else◌, IsTrue, List, [], ◌∷◌, length, get_or, Some, None, Result, Ok, Err, MatchResult, All, Contains, arith}
 use Rattle.std.specs.List.Sorted.{IsStrictlyIncreasing, IsBinarySearchResult}
 use Rattle.std.specs.Ordering.{nat_cmp}
 use Rattle.std.specs.Result.{is_ok}
-use Rattle.std.proofs.lemmas.Bool.{cases_lt}
-use Rattle.std.proofs.lemmas.Bool.Decides.{nat_tests}
+use Rattle.std.proofs.lemmas.Bool.{cases_lt, ltb-true}
 use Rattle.std.proofs.lemmas.List.{get_or_default}
 use Rattle.std.proofs.lemmas.List.Elements.{All-cons}
 use Rattle.std.proofs.lemmas.List.Kept.{AllPairs-from_increasing}
 use Rattle.std.proofs.lemmas.List.Sorted.{searched}
+use Rattle.list_facts.proofs.Rising.{rising-cons}
 use Rattle.tensor_words.specs.Worlds.{place_of_no_word, place_of_no_rise, place_of_no_rise_after}
-
-pub below_by_test : (a b : ℕ) → nat_lt a b ≡ true → a < b
-below_by_test a b is = grind (arith, nat_tests)
 
 pub words_from_place : (size n : ℕ) (cs : List ℕ) → place_of_no_word size n cs ≡ None → All (λ c. c < size) cs
 words_from_place size n [] is = λ k d lt. absurd (omega arith)
 words_from_place size n (c ∷ cs) is =
     elim (nat_lt c size) as (λ b. nat_lt c size ≡ b → (if b then place_of_no_word size (n + 1) cs else Some n) ≡ None → All (λ x. x < size) (c ∷ cs)) [
-      | true ↦ λ below next. All-cons (λ x. x < size) c cs (below_by_test c size below) (words_from_place size (n + 1) cs next)
+      | true ↦ λ below next. All-cons (λ x. x < size) c cs (ltb-true c size below) (words_from_place size (n + 1) cs next)
       | false ↦ λ over next. cc
     ] refl is
-
-pub rising-cons : (c d : ℕ) (ds : List ℕ) → c < d → IsStrictlyIncreasing (d ∷ ds) → IsStrictlyIncreasing (c ∷ d ∷ ds)
-rising-cons c d ds lt rest = λ k. at k
-  where
-    at : (k : ℕ) → k + 1 < length (c ∷ d ∷ ds) → get_or (c ∷ d ∷ ds) k 0 < get_or (c ∷ d ∷ ds) (k + 1) 0
-    at zero within = lt
-    at (suc k) within = let next : suc k + 1 ≡ suc (k + 1) = omega arith in rw next (rest k (omega arith))
 
 pub rising_from_place : (n c : ℕ) (ds : List ℕ) → place_of_no_rise_after n c ds ≡ None → IsStrictlyIncreasing (c ∷ ds)
 rising_from_place n c [] is = λ k lt. absurd (omega arith)
 rising_from_place n c (d ∷ ds) is =
     elim (nat_lt c d) as (λ b. nat_lt c d ≡ b → (if b then place_of_no_rise_after (n + 1) d ds else Some (n + 1)) ≡ None → IsStrictlyIncreasing (c ∷ d ∷ ds)) [
-      | true ↦ λ below next. rising-cons c d ds (below_by_test c d below) (rising_from_place (n + 1) d ds next)
+      | true ↦ λ below next. rising-cons c d ds (ltb-true c d below) (rising_from_place (n + 1) d ds next)
       | false ↦ λ over next. cc
     ] refl is
 

@@ -1,23 +1,15 @@
 -- Weights of words, added from the last factor to the first.
-use Rattle.std.proofs.Common.{◌≡◌, ◌∙◌, sym, ap, subst, refl, ℕ, ◌+◌, ◌-◌, ◌*◌, ◌≤◌, ◌<◌, List, [], length, drop, get_or, ℤ, pos, All, arith}
-use Rattle.std.specs.List.{range_with_len}
+use Rattle.std.proofs.Common.{◌≡◌, ◌∙◌, sym, subst, refl, ℕ, ◌+◌, ◌-◌, ◌*◌, ◌≤◌, ◌<◌, List, [], length, drop, get_or, ℤ, pos, All, arith}
 use Rattle.std.proofs.lemmas.Int.{ints}
-use Rattle.std.proofs.lemmas.List.{drop_more, drop_all, get_or-map, length-map}
-use Rattle.std.proofs.lemmas.List.FromFn.{get_or-range_with_len}
+use Rattle.std.proofs.lemmas.List.{drop_more, drop_all}
 use Rattle.crystal_cartan.specs.Types.{coordinates}
-use Rattle.crystal_cartan.specs.Weights.{weight_from, coordinate, zero_weight, sum_of, IsWeight, IsSmall, IsWithin}
+use Rattle.crystal_cartan.specs.Weights.{coordinate, zero_weight, sum_of, IsWeight, IsWithin}
 use Rattle.crystal_cartan.proofs.Coordinates.{length-weight_from}
 use Rattle.tensor_words.specs.declared.spaces.Factor.TheVariants.{Vector}
 use Rattle.tensor_words.specs.Spaces.{SpaceType, base_weight, factor_at, weight_along, word_weight}
 use Rattle.tensor_words.specs.Codes.{IsWord}
 use Rattle.tensor_words.proofs.SpaceWords.{length_word}
-
-pub All-weight_from : (P : ℤ → Type 0) (n : ℕ) (f : ℕ → ℤ) → ((j : ℕ) → 1 ≤ j → j ≤ n → P (f j)) → All P (weight_from n f)
-All-weight_from P n f each = λ k d lt.
-    let within : k < n = omega (arith, length-weight_from n f) in
-    let at : get_or (weight_from n f) k d ≡ f (1 + k) =
-    get_or-map f (range_with_len 1 n) k 0 d (omega (arith, length-map (range_with_len 1 n) f)) ∙ ap f (get_or-range_with_len 1 n k 0 within) in
-    rw at (each (1 + k) (omega arith) (omega arith))
+use Rattle.crystal_cartan.proofs.Bounds.{All-weight_from}
 
 pub within_at : (n : ℕ) (w : List ℤ) (j : ℕ) → All (IsWithin n) w → 1 ≤ j → j ≤ length w → IsWithin n (coordinate w j)
 within_at n w j all low high = all (j - 1) (pos 0) (omega arith)
@@ -27,10 +19,6 @@ within_sum a b v w same first second = All-weight_from (IsWithin (a + b)) (lengt
     let x : IsWithin a (coordinate v j) = within_at a v j first low high in
     let y : IsWithin b (coordinate w j) = within_at b w j second low (omega arith) in
     (omega (arith, ints, x.0, y.0), omega (arith, ints, x.1, y.1)))
-
-pub small_within : (n : ℕ) (w : List ℤ) → n ≤ 1000 → All (IsWithin n) w → IsSmall w
-small_within n w few all = λ k d lt. let x : IsWithin n (get_or w k d) = all k d lt in
-    (omega (arith, ints, x.0), omega (arith, ints, x.1))
 
 -- the weight of the elements from the place k on
 pub record IsWeighed (s : SpaceType) (w : List ℕ) (k : ℕ) (sum : List ℤ) : Type 0 where

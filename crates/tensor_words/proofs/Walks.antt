@@ -1,13 +1,15 @@
 -- Walks over codes and over words, and what is reached by them.
-use Rattle.std.proofs.Common.{◌≡◌, sym, refl, ℕ, zero, suc, ◌<◌, List, [], ◌∷◌, get_or, Contains, Some, None, ◌⊎◌, inl, inr, arith}
-use Rattle.std.specs.List.{AllPairs}
+use Rattle.std.proofs.Common.{◌≡◌, refl, ◌∙◌, ℕ, List, [], ◌∷◌, ◌++◌, Contains, Some, None}
 use Rattle.std.specs.Option.{option_map, option_and_then}
 use Rattle.std.proofs.lemmas.List.Kept.{AllPairs-from_increasing}
+use Rattle.list_facts.proofs.Rising.{same_members}
 use Rattle.tensor_words.specs.Codes.{IsWord, code_of, word_of}
-use Rattle.tensor_words.specs.Operators.{acted, op}
-use Rattle.tensor_words.specs.Reach.{walk, word_walk, WalksAgree, ComponentListIsUnique}
+use Rattle.tensor_words.specs.Operators.{IsArrow, acted, op}
+use Rattle.tensor_words.specs.Reach.{IsPath, walk, word_walk, IsReachedFrom, WalksAgree, ComponentListIsUnique}
 use Rattle.tensor_words.proofs.CodeLaws.{codes_correspond}
 use Rattle.tensor_words.proofs.Keeps.{operators_keep_words}
+use Rattle.tensor_words.specs.Spaces.{SpaceType}
+use Rattle.crystal_cartan.specs.declared.types.Arrow.{Arrow}
 
 pub walks_agree : WalksAgree
 unfolding walk word_walk op
@@ -24,57 +26,49 @@ walks_agree s (a ∷ path) c space arrows below =
           rw codes.1 at rest
     ] refl
 
--- Membership in a list with a first element.
-here : (y : ℕ) (ys : List ℕ) → Contains (y ∷ ys) y
-here y ys = (zero, omega arith, refl)
+-- one arrow more at either end of a walk
+pub walk-nil : (s : SpaceType) (c : ℕ) → walk s [] c ≡ Some c
+unfolding walk
+walk-nil s c = refl
 
-there : (y : ℕ) (ys : List ℕ) (c : ℕ) → Contains ys c → Contains (y ∷ ys) c
-there y ys c (k, below, is) = (suc k, omega arith, is)
+pub walk-none : (s : SpaceType) (a : Arrow) (path : List Arrow) (c : ℕ) → op s a c ≡ None → walk s (a ∷ path) c ≡ None
+unfolding walk
+walk-none s a path c is = rw is refl
 
-first_or_later : (y : ℕ) (ys : List ℕ) (c : ℕ) → Contains (y ∷ ys) c → (y ≡ c) ⊎ Contains ys c
-first_or_later y ys c (zero, below, is) = inl is
-first_or_later y ys c (suc k, below, is) = inr (k, omega arith, is)
+pub walk-cons : (s : SpaceType) (a : Arrow) (path : List Arrow) (c d : ℕ) → op s a c ≡ Some d → walk s (a ∷ path) c ≡ walk s path d
+unfolding walk
+walk-cons s a path c d is = rw is refl
 
--- each number is below all later ones
-abbrev pub Rises : List ℕ → Type 0
-Rises xs = AllPairs (λ x y. x < y) xs
+pub walk-push : (s : SpaceType) (path : List Arrow) (a : Arrow) (c d : ℕ) → walk s path c ≡ Some d → walk s (path ++ a ∷ []) c ≡ op s a d
+unfolding walk
+walk-push s [] a c d is =
+    let same : c ≡ d = cc in
+    rw same (elim (op s a d) as (λ o. option_and_then (walk s []) o ≡ o) [ None ↦ refl | Some x ↦ refl ])
+walk-push s (b ∷ path) a c d is =
+    elim (op s b c) as (λ o. option_and_then (walk s path) o ≡ Some d → option_and_then (walk s (path ++ a ∷ [])) o ≡ op s a d) [
+      | None ↦ λ none. cc
+      | Some x ↦ λ rest. walk-push s path a x d rest
+    ] is
 
-rises_later : (x : ℕ) (xs : List ℕ) → Rises (x ∷ xs) → Rises xs
-rises_later x xs h = λ i j d low high. h (suc i) (suc j) d (omega arith) (omega arith)
+pub walk_more : (s : SpaceType) (path : List Arrow) (a : Arrow) (c d e : ℕ) → walk s path c ≡ Some d → op s a d ≡ Some e → walk s (path ++ a ∷ []) c ≡ Some e
+walk_more s path a c d e before leads = walk-push s path a c d before ∙ leads
 
-first_is_least : (x : ℕ) (xs : List ℕ) (c : ℕ) → Rises (x ∷ xs) → Contains xs c → x < c
-first_is_least x xs c h (k, below, is) =
-    let low : x < get_or xs k c = h zero (suc k) c (omega arith) (omega arith) in
-    rw is at low
+pub path-push : (s : SpaceType) (path : List Arrow) (a : Arrow) → IsPath s path → IsArrow s a → IsPath s (path ++ a ∷ [])
+path-push s [] a arrows fits = (fits, tt)
+path-push s (b ∷ path) a arrows fits = (arrows.0, path-push s path a arrows.1 fits)
 
-same_first : (x y : ℕ) (xs ys : List ℕ) → Rises (x ∷ xs) → Rises (y ∷ ys) → Contains (y ∷ ys) x → Contains (x ∷ xs) y → x ≡ y
-same_first x y xs ys p q left right =
-    elim (first_or_later y ys x left) [
-      | inl is ↦ sym is
-      | inr later ↦ elim (first_or_later x xs y right) [
-        | inl is ↦ is
-        | inr after ↦ absurd (omega (arith, first_is_least y ys x q later, first_is_least x xs y p after))
-      ]
-    ]
+-- what is reached: the roots, and what an arrow leads to from there
+pub root_reached : (s : SpaceType) (roots : List ℕ) (c : ℕ) → Contains roots c → IsReachedFrom s roots c
+root_reached s roots c there = record { root = c; rooted = there; path = []; arrows = tt; leads = walk-nil s c }
 
-later_members : (x y : ℕ) (xs ys : List ℕ) → Rises (x ∷ xs) → x ≡ y → ((c : ℕ) → Contains (x ∷ xs) c → Contains (y ∷ ys) c)
-    → (c : ℕ) → Contains xs c → Contains ys c
-later_members x y xs ys p same to c within =
-    elim (first_or_later y ys c (to c (there x xs c within))) [
-      | inl is ↦ absurd (omega (arith, first_is_least x xs c p within))
-      | inr later ↦ later
-    ]
-
--- two rising lists with the same members
-pub same_members : (xs ys : List ℕ) → Rises xs → Rises ys → ((c : ℕ) → Contains xs c → Contains ys c) → ((c : ℕ) → Contains ys c → Contains xs c) → xs ≡ ys
-same_members [] [] p q to from = refl
-same_members [] (y ∷ ys) p q to from = absurd (omega (arith, (from y (here y ys)).1))
-same_members (x ∷ xs) [] p q to from = absurd (omega (arith, (to x (here x xs)).1))
-same_members (x ∷ xs) (y ∷ ys) p q to from =
-    let first : x ≡ y = same_first x y xs ys p q (to x (here x xs)) (from y (here y ys)) in
-    let rest : xs ≡ ys = same_members xs ys (rises_later x xs p) (rises_later y ys q)
-    (later_members x y xs ys p first to) (later_members y x ys xs q (sym first) from) in
-    rw (first, rest) refl
+pub reached_more : (s : SpaceType) (roots : List ℕ) (a : Arrow) (c d : ℕ) → IsReachedFrom s roots c → IsArrow s a → op s a c ≡ Some d → IsReachedFrom s roots d
+reached_more s roots a c d r fits leads = record {
+  root = r.root;
+  rooted = r.rooted;
+  path = r.path ++ a ∷ [];
+  arrows = path-push s r.path a r.arrows fits;
+  leads = walk_more s r.path a r.root c d r.leads leads;
+}
 
 pub component_list_is_unique : ComponentListIsUnique
 component_list_is_unique w xs ys p q =

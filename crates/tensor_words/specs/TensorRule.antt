@@ -1,9 +1,10 @@
--- The tensor product rule in its two orders, for a word x ⊗ y of a first factor x and the rest y.
+-- The tensor product rule in its two orders, by one recursion, for a word x ⊗ y of a first factor x and the rest y.
 -- The standard order is that of Bump and Schilling, Crystal Bases (2017), section 2.3.
 -- It speaks of any list of actions, one for each factor. Subtraction of natural numbers stops at 0, so a - b is max(0, a - b).
 use Rattle.std.specs.Prelude.{ℕ, ◌+◌, ◌-◌, nat_le, nat_lt, if◌then◌else◌, List, [], ◌∷◌, map, Option, None}
 use Rattle.std.specs.Option.{option_map}
 use Rattle.crystal_cartan.specs.Crystals.{Action}
+use Rattle.tensor_words.specs.declared.spaces.Factor.{Factor}
 use Rattle.tensor_words.specs.declared.spaces.Order.{Order}
 use Rattle.tensor_words.specs.declared.spaces.Order.TheVariants.{Standard, Kashiwara}
 use Rattle.tensor_words.specs.Spaces.{SpaceType, base_action}
@@ -40,57 +41,24 @@ word_raise (act ∷ acts) (x ∷ y) =
 abbrev pub word_action : {E : Type 0} → List (Action E) → Action (List E)
 word_action acts = record { eps = word_eps acts; phi = word_phi acts; lower = word_lower acts; raise = word_raise acts }
 
--- Kashiwara's order (Hong and Kang, Introduction to Quantum Groups and Crystal Bases, 2002, section 4.4): the two factors change their parts.
-
--- eps(x ⊗ y) = eps(x) + max(0, eps(y) - phi(x))
-abbrev pub kashiwara_eps : {E : Type 0} → List (Action E) → List E → ℕ
-kashiwara_eps [] w = 0
-kashiwara_eps (act ∷ acts) [] = 0
-kashiwara_eps (act ∷ acts) (x ∷ y) = act.eps x + (kashiwara_eps acts y - act.phi x)
-
--- phi(x ⊗ y) = phi(y) + max(0, phi(x) - eps(y))
-abbrev pub kashiwara_phi : {E : Type 0} → List (Action E) → List E → ℕ
-kashiwara_phi [] w = 0
-kashiwara_phi (act ∷ acts) [] = 0
-kashiwara_phi (act ∷ acts) (x ∷ y) = kashiwara_phi acts y + (act.phi x - kashiwara_eps acts y)
-
--- f(x ⊗ y) = x ⊗ f(y) if phi(x) ≤ eps(y), else f(x) ⊗ y
-abbrev pub kashiwara_lower : {E : Type 0} → List (Action E) → List E → Option (List E)
-kashiwara_lower [] w = None
-kashiwara_lower (act ∷ acts) [] = None
-kashiwara_lower (act ∷ acts) (x ∷ y) =
-    if nat_le (act.phi x) (kashiwara_eps acts y) then option_map (λ z. x ∷ z) (kashiwara_lower acts y)
-    else option_map (λ z. z ∷ y) (act.lower x)
-
--- e(x ⊗ y) = x ⊗ e(y) if phi(x) < eps(y), else e(x) ⊗ y
-abbrev pub kashiwara_raise : {E : Type 0} → List (Action E) → List E → Option (List E)
-kashiwara_raise [] w = None
-kashiwara_raise (act ∷ acts) [] = None
-kashiwara_raise (act ∷ acts) (x ∷ y) =
-    if nat_lt (act.phi x) (kashiwara_eps acts y) then option_map (λ z. x ∷ z) (kashiwara_raise acts y)
-    else option_map (λ z. z ∷ y) (act.raise x)
-
-abbrev pub kashiwara_action : {E : Type 0} → List (Action E) → Action (List E)
-kashiwara_action acts = record {
-  eps = kashiwara_eps acts;
-  phi = kashiwara_phi acts;
-  lower = kashiwara_lower acts;
-  raise = kashiwara_raise acts;
-}
-
--- how one index acts on words whose factors have these actions, in each order
-abbrev pub action_in : {E : Type 0} → Order → List (Action E) → Action (List E)
-action_in Standard acts = word_action acts
-action_in Kashiwara acts = kashiwara_action acts
-
 -- an action with its two operators, and their two lengths, exchanged
 abbrev pub turned : {E : Type 0} → Action E → Action E
 turned act = record { eps = act.phi; phi = act.eps; lower = act.raise; raise = act.lower }
 
--- an action as the standard order sees it: in Kashiwara's order the turned actions of factors and word follow its rule
+-- an action, and the actions of all factors, as the standard order sees them: in Kashiwara's order they are turned
 abbrev pub as_standard : {E : Type 0} → Order → Action E → Action E
 as_standard Standard act = act
 as_standard Kashiwara act = turned act
+
+abbrev pub all_as_standard : {E : Type 0} → Order → List (Action E) → List (Action E)
+all_as_standard Standard acts = acts
+all_as_standard Kashiwara acts = map turned acts
+
+-- How one index acts on words whose factors have these actions, in each order. Kashiwara's (Hong and Kang, Introduction to Quantum
+-- Groups and Crystal Bases, 2002, section 4.4) is the standard one with the two operators, and their two lengths, exchanged at each
+-- factor and on the word: f(x ⊗ y) = f(x) ⊗ y if eps(y) < phi(x), else x ⊗ f(y).
+abbrev pub action_in : {E : Type 0} → Order → List (Action E) → Action (List E)
+action_in o acts = as_standard o (word_action (all_as_standard o acts))
 
 -- how the index i acts on each factor of a space, and on its words
 abbrev pub factor_actions : SpaceType → ℕ → List (Action ℕ)
@@ -98,3 +66,10 @@ factor_actions s i = map (base_action s.cartan i) s.factors
 
 unfoldable pub action : SpaceType → ℕ → Action (List ℕ)
 action s i = action_in s.order (factor_actions s i)
+
+-- how the index i acts on a factor, and on each of the factors, as the standard order sees them
+abbrev pub seen_action : SpaceType → ℕ → Factor → Action ℕ
+seen_action s i f = as_standard s.order (base_action s.cartan i f)
+
+abbrev pub seen_actions : SpaceType → ℕ → List (Action ℕ)
+seen_actions s i = map (seen_action s i) s.factors

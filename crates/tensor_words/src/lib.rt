@@ -3,7 +3,7 @@
 //!
 //! **Promises.** A `Space` is a list of factors of one Cartan type in a tensor order (`spaces`, the module to read
 //! first), a `Word` one digit for each of them, and its code a number below the size of the space (`words`). The
-//! operators follow the two-factor rule by its plain recursion (`rule`, `kashiwara_rule`, `reach`), the weight is the
+//! operators follow the two-factor rule by its plain recursion (`rule`, `reach`), the weight is the
 //! sum of the factors' (`weights`). A `World` is what a graph grows from (`worlds`). What holds of all words stands in
 //! `laws`: codes and words correspond, the rule holds for two words one after the other, Kashiwara's order is the
 //! standard one on reversed words, eps and phi are lengths of strings, arrows lead back.
@@ -17,7 +17,6 @@
 #![tactic(auto)]
 
 mod elements;
-mod kashiwara_rule;
 mod laws;
 mod reach;
 mod rule;

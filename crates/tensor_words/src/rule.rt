@@ -1,10 +1,11 @@
-//! The tensor product rule by the plain recursion of its definition.
+//! The tensor product rule by the plain recursion of its definition. The recursion is that of the standard order; in
+//! Kashiwara's the operators e_i and f_i, and their lengths, are exchanged at each factor and on the word.
 ghost use Rattle.std.specs.Prelude.{◌≡◌, ℕ, ◌+◌, ◌-◌, ◌*◌, ◌≤◌, ◌<◌, ◌++◌, length, take, drop, slice_index, IfSome};
 ghost use Rattle.std.specs.Option.{option_map};
 ghost use Rattle.crystal_cartan.specs.Types.{HasIndex};
-ghost use Rattle.tensor_words.specs.Spaces.{size_at};
+ghost use Rattle.tensor_words.specs.Spaces.{factor_at, size_at};
 ghost use Rattle.tensor_words.specs.Codes.{IsWord};
-ghost use Rattle.tensor_words.specs.TensorRule.{action, factor_actions, word_phi, word_eps, word_lower, word_raise};
+ghost use Rattle.tensor_words.specs.TensorRule.{action, seen_action, seen_actions, word_phi, word_eps, word_lower, word_raise};
 
 use crate::spaces::{Order, Space};
 use crate::words::Word;
@@ -20,7 +21,7 @@ impl Space {
     {
         match self.order() {
             Order::Standard => self.lower_from(word, 0, i),
-            Order::Kashiwara => self.kashiwara_lower_from(word, 0, i),
+            Order::Kashiwara => self.raise_from(word, 0, i),
         }
     }
 
@@ -34,7 +35,7 @@ impl Space {
     {
         match self.order() {
             Order::Standard => self.raise_from(word, 0, i),
-            Order::Kashiwara => self.kashiwara_raise_from(word, 0, i),
+            Order::Kashiwara => self.lower_from(word, 0, i),
         }
     }
 
@@ -50,7 +51,7 @@ impl Space {
         let _count = self.count();
         match self.order() {
             Order::Standard => self.eps_from(word, 0, i),
-            Order::Kashiwara => self.kashiwara_eps_from(word, 0, i),
+            Order::Kashiwara => self.phi_from(word, 0, i),
         }
     }
 
@@ -66,7 +67,7 @@ impl Space {
         let _count = self.count();
         match self.order() {
             Order::Standard => self.phi_from(word, 0, i),
-            Order::Kashiwara => self.kashiwara_phi_from(word, 0, i),
+            Order::Kashiwara => self.eps_from(word, 0, i),
         }
     }
 
@@ -80,12 +81,68 @@ impl Space {
         word.digit(place)
     }
 
-    /// phi of the rest of the word from this place on, in the standard order.
+    /// eps of the element with this digit of the factor at this place, as the standard order sees it.
+    fn seen_eps(&self, place: u8, digit: u16, i: u8) -> u32
+        requires place { place < length self.now.factors }
+        requires digit { digit < size_at self.now place }
+        requires index { HasIndex self.now.cartan i }
+        ensures value { result ≡ (seen_action self.now i (factor_at self.now place)).eps digit }
+        ensures small { result ≤ 2 }
+    {
+        match self.order() {
+            Order::Standard => self.digit_eps(place, digit, i),
+            Order::Kashiwara => self.digit_phi(place, digit, i),
+        }
+    }
+
+    /// phi of the element with this digit of the factor at this place, as the standard order sees it.
+    fn seen_phi(&self, place: u8, digit: u16, i: u8) -> u32
+        requires place { place < length self.now.factors }
+        requires digit { digit < size_at self.now place }
+        requires index { HasIndex self.now.cartan i }
+        ensures value { result ≡ (seen_action self.now i (factor_at self.now place)).phi digit }
+        ensures small { result ≤ 2 }
+    {
+        match self.order() {
+            Order::Standard => self.digit_phi(place, digit, i),
+            Order::Kashiwara => self.digit_eps(place, digit, i),
+        }
+    }
+
+    /// f_i of the element with this digit of the factor at this place, as the standard order sees it.
+    fn seen_lower(&self, place: u8, digit: u16, i: u8) -> Option<u16>
+        requires place { place < length self.now.factors }
+        requires digit { digit < size_at self.now place }
+        requires index { HasIndex self.now.cartan i }
+        ensures value { result ≡ (seen_action self.now i (factor_at self.now place)).lower digit }
+        ensures below { IfSome result (λ d. d < size_at self.now place) }
+    {
+        match self.order() {
+            Order::Standard => self.digit_lower(place, digit, i),
+            Order::Kashiwara => self.digit_raise(place, digit, i),
+        }
+    }
+
+    /// e_i of the element with this digit of the factor at this place, as the standard order sees it.
+    fn seen_raise(&self, place: u8, digit: u16, i: u8) -> Option<u16>
+        requires place { place < length self.now.factors }
+        requires digit { digit < size_at self.now place }
+        requires index { HasIndex self.now.cartan i }
+        ensures value { result ≡ (seen_action self.now i (factor_at self.now place)).raise digit }
+        ensures below { IfSome result (λ d. d < size_at self.now place) }
+    {
+        match self.order() {
+            Order::Standard => self.digit_raise(place, digit, i),
+            Order::Kashiwara => self.digit_lower(place, digit, i),
+        }
+    }
+
+    /// phi of the rest of the word from this place on, as the standard order sees it.
     fn phi_from(&self, word: &Word, place: u8, i: u8) -> u32
         requires word { IsWord self.now word.now }
         requires index { HasIndex self.now.cartan i }
         requires place { place ≤ length self.now.factors }
-        ensures value { result ≡ word_phi (drop place (factor_actions self.now i)) (drop place word.now) }
+        ensures value { result ≡ word_phi (drop place (seen_actions self.now i)) (drop place word.now) }
         ensures small { result ≤ 2 * (length self.now.factors - place) }
     {
         if place == self.count() {
@@ -93,15 +150,15 @@ impl Space {
         }
         let rest = self.phi_from(word, place + 1, i);
         let digit = self.digit_in(word, place);
-        self.digit_phi(place, digit, i) + rest.saturating_sub(self.digit_eps(place, digit, i))
+        self.seen_phi(place, digit, i) + rest.saturating_sub(self.seen_eps(place, digit, i))
     }
 
-    /// eps of the rest of the word from this place on, in the standard order.
+    /// eps of the rest of the word from this place on, as the standard order sees it.
     fn eps_from(&self, word: &Word, place: u8, i: u8) -> u32
         requires word { IsWord self.now word.now }
         requires index { HasIndex self.now.cartan i }
         requires place { place ≤ length self.now.factors }
-        ensures value { result ≡ word_eps (drop place (factor_actions self.now i)) (drop place word.now) }
+        ensures value { result ≡ word_eps (drop place (seen_actions self.now i)) (drop place word.now) }
         ensures small { result ≤ 2 * (length self.now.factors - place) }
     {
         if place == self.count() {
@@ -110,43 +167,43 @@ impl Space {
         let rest = self.eps_from(word, place + 1, i);
         let digit = self.digit_in(word, place);
         rest + self
-            .digit_eps(place, digit, i)
+            .seen_eps(place, digit, i)
             .saturating_sub(self.phi_from(word, place + 1, i))
     }
 
-    /// The word with f_i applied to its rest from this place on, in the standard order.
+    /// The word with f_i applied to its rest from this place on, as the standard order sees it.
     fn lower_from(&self, word: &Word, place: u8, i: u8) -> Option<Word>
         requires word { IsWord self.now word.now }
         requires index { HasIndex self.now.cartan i }
         requires place { place ≤ length self.now.factors }
-        ensures value { result ≡ option_map (λ z. take place word.now ++ z) (word_lower (drop place (factor_actions self.now i)) (drop place word.now)) }
+        ensures value { result ≡ option_map (λ z. take place word.now ++ z) (word_lower (drop place (seen_actions self.now i)) (drop place word.now)) }
         ensures word { IfSome result (IsWord self.now) }
     {
         if place == self.count() {
             return None;
         }
         let digit = self.digit_in(word, place);
-        if self.phi_from(word, place + 1, i) <= self.digit_eps(place, digit, i) {
-            let lowered = self.digit_lower(place, digit, i)?;
+        if self.phi_from(word, place + 1, i) <= self.seen_eps(place, digit, i) {
+            let lowered = self.seen_lower(place, digit, i)?;
             return Some(self.put(word, place, lowered));
         }
         self.lower_from(word, place + 1, i)
     }
 
-    /// The word with e_i applied to its rest from this place on, in the standard order.
+    /// The word with e_i applied to its rest from this place on, as the standard order sees it.
     fn raise_from(&self, word: &Word, place: u8, i: u8) -> Option<Word>
         requires word { IsWord self.now word.now }
         requires index { HasIndex self.now.cartan i }
         requires place { place ≤ length self.now.factors }
-        ensures value { result ≡ option_map (λ z. take place word.now ++ z) (word_raise (drop place (factor_actions self.now i)) (drop place word.now)) }
+        ensures value { result ≡ option_map (λ z. take place word.now ++ z) (word_raise (drop place (seen_actions self.now i)) (drop place word.now)) }
         ensures word { IfSome result (IsWord self.now) }
     {
         if place == self.count() {
             return None;
         }
         let digit = self.digit_in(word, place);
-        if self.phi_from(word, place + 1, i) < self.digit_eps(place, digit, i) {
-            let raised = self.digit_raise(place, digit, i)?;
+        if self.phi_from(word, place + 1, i) < self.seen_eps(place, digit, i) {
+            let raised = self.seen_raise(place, digit, i)?;
             return Some(self.put(word, place, raised));
         }
         self.raise_from(word, place + 1, i)

@@ -1,58 +1,17 @@
 //! Lists of codes, and worlds.
-ghost use Rattle.std.specs.Prelude.{◌≡◌, ℕ, ◌+◌, ◌≤◌, ◌<◌, ◌^◌, ◌↔◌, length, slice_index, IsTrue, IfOk, None, All, Contains};
+ghost use Rattle.std.specs.Prelude.{◌≡◌, ℕ, ◌+◌, ◌≤◌, ◌<◌, ◌^◌, ◌↔◌, length, IsTrue, IfOk, None, All, Contains};
 ghost use Rattle.std.specs.List.Sorted.{IsStrictlyIncreasing};
 ghost use Rattle.tensor_words.specs.Worlds.{IsWorld, world_of, place_of_no_word, place_of_no_rise};
 
 use crate::spaces::Space;
+use list_facts::Listed;
 use std::marker::Model;
 
 /// The most cells of a world.
 pub const MOST_CELLS: u32 = 1_048_576;
 
 /// A list of codes.
-#[derive(Debug, Drop)]
-pub struct Codes {
-    list: Vec<u64>,
-}
-
-impl Model for Codes {
-    ghost use Rattle.std.specs.Prelude.{ℕ, List};
-
-    ghost Value = { List ℕ };
-
-    ghost view = { λ c. c.list.items };
-}
-
-impl Codes {
-    /// The codes of this list, in its order.
-    pub fn of(list: Vec<u64>) -> Codes
-        ensures { result ≡ list.items }
-    {
-        Codes { list }
-    }
-
-    /// The number of codes.
-    pub fn len(&self) -> usize
-        ensures { result ≡ length self.now }
-    {
-        self.list.len()
-    }
-
-    /// The code at this place, counted from 0.
-    pub fn at(&self, k: usize) -> u64
-        requires { k < length self.now }
-        ensures { result ≡ slice_index self.now k }
-    {
-        self.list[k]
-    }
-
-    /// The codes as a slice.
-    pub fn as_slice(&self) -> &[u64]
-        ensures { result.now ≡ self.now }
-    {
-        self.list.as_slice()
-    }
-}
+pub type Codes = Listed<u64>;
 
 /// Why a space, a number of cells and roots make no world.
 #[derive(Clone, Copy, Debug, PartialEq, Eq)]

@@ -1,5 +1,5 @@
 -- The value of decimal digits.
-use Rattle.std.proofs.Common.{◌≡◌, ℕ, ◌+◌, ◌-◌, ◌*◌, ◌^◌, ◌<◌, ◌≤◌, true, List, [], ◌∷◌, ◌++◌, length, refl, ap, lit<, rules, arith}
+use Rattle.std.proofs.Common.{◌≡◌, ℕ, ◌+◌, ◌-◌, ◌*◌, ◌^◌, ◌<◌, ◌≤◌, true, List, [], ◌∷◌, length, ap, lit<, rules, arith}
 use Rattle.std.specs.Prelude.{nat_le, ◌&&◌, decimal, Some}
 use Rattle.std.specs.Char.{is_ascii_digit}
 use Rattle.std.specs.List.{list_all}
@@ -9,11 +9,6 @@ use Rattle.std.proofs.lemmas.Str.Parse.{IsNumeralModel, numerals_by_fold}
 use Rattle.std.proofs.lemmas.Fmt.{decimal_is_IsNumeral, digits_value-decimal, length-decimal-le}
 use Rattle.std.proofs.Math.Nat.{mul-le-mul_right, mul_assoc, pow-succ', pow-le-pow_right}
 use Rattle.text_pieces.specs.Numbers.{value_from, are_digits, number_of}
-
--- digits are read one part after the other
-pub value_from-append : (number : ℕ) (xs ys : List ℕ) → value_from number (xs ++ ys) ≡ value_from (value_from number xs) ys
-value_from-append number [] ys = refl
-value_from-append number (x ∷ xs) ys = value_from-append (10 * number + (x - 48)) xs ys
 
 -- k further digits of a number stay below the next number with k zeros
 pub value_from_below : (number : ℕ) (digits : List ℕ) → list_all is_ascii_digit digits ≡ true → value_from number digits < (number + 1) * 10 ^ length digits

@@ -41,3 +41,7 @@ spaced (word ∷ next ∷ rest) = word ++ 32 ∷ spaced (next ∷ rest)
 -- whether each byte of a line is printed ASCII, the blank among them
 abbrev pub are_printed : List ℕ → Bool
 are_printed line = list_all (λ byte. nat_le 32 byte && nat_le byte 126) line
+
+-- what stands between two parts of a line: a blank, an upright bar and a blank
+abbrev pub bar : List ℕ
+bar = 32 ∷ 124 ∷ 32 ∷ []

@@ -2,14 +2,16 @@
 use Rattle.std.proofs.Common.{subst, ◌≡◌, ℕ, zero, suc, ◌+◌, ◌-◌, ◌/◌, ◌≤◌, ◌<◌, Bool, true, false, ◌&&◌, ◌||◌, ◌==◌, nat_lt, nat_le, not, inl, inr, ◌⊎◌, if◌then◌else◌, slice_index_or, ℤ, pos, negsuc, neg_ℤ, ◌<ℤ◌, unsigned_abs, arith, refl, sym, ap, ◌∙◌, int_eq, IsTrue, ◌↔◌}
 use Rattle.std.specs.List.{position_or_len}
 use Rattle.std.specs.Int.Signed.{lt_z}
-use Rattle.std.proofs.lemmas.Bool.{eqb-true}
+use Rattle.std.proofs.lemmas.Bool.{eqb-true, ltb-true}
 use Rattle.std.proofs.lemmas.Bool.Decides.{nat_tests}
 use Rattle.std.proofs.lemmas.Int.{ints}
+use Rattle.list_facts.proofs.Truth.{first_true, second_true}
 use Rattle.crystal_cartan.specs.Types.{CartanType, IsCartan, coordinates, coordinates_of}
 use Rattle.crystal_cartan.specs.declared.types.Kind.{Kind}
 use Rattle.crystal_cartan.specs.declared.types.Kind.TheVariants.{A, B, C, D}
 use Rattle.vector_crystals.specs.Letters.{letters, letters_of, IsLetter, letter_count, letter_count_of, letter_at, letter_digit}
-use Rattle.vector_crystals.proofs.Tables.{and_left, and_right, has, has-contains, all_below, below_at, all_ranks, ranks_at, all_letters, letters_at, int_eq-true}
+use Rattle.vector_crystals.proofs.Tables.{has, has-contains, all_below, below_at, all_ranks, ranks_at, all_letters, letters_at, int_eq-true}
+use Rattle.crystal_cartan.proofs.Coordinates.{coordinates_few}
 
 -- the letter with a digit
 abbrev at_digit : Kind → ℕ → ℕ → ℤ
@@ -28,23 +30,20 @@ at_rows B = refl
 at_rows C = refl
 at_rows D = refl
 
-below_from_test : (a b : ℕ) → nat_lt a b ≡ true → a < b
-below_from_test a b h = grind (arith, nat_tests)
-
 at_row : (t : CartanType) (d : ℕ) → IsCartan t → d < letter_count t → at_cell t.kind t.rank d ≡ true
 at_row t d c low = below_at (letter_count t) (at_cell t.kind t.rank) (ranks_at (λ k r. all_below (letter_count_of k r) (at_cell k r)) at_rows t c) d low
 
 pub letter_at-letter : (t : CartanType) (d : ℕ) → IsCartan t → d < letter_count t → IsLetter t (letter_at t d)
 unfolding letters
-letter_at-letter t d c low = has-contains (letters_of t.kind t.rank) _ (and_right _ _ (and_left _ _ (at_row t d c low)))
+letter_at-letter t d c low = has-contains (letters_of t.kind t.rank) _ (second_true _ _ (first_true _ _ (at_row t d c low)))
 
 pub letter_digit-letter_at : (t : CartanType) (d : ℕ) → IsCartan t → d < letter_count t → letter_digit t (letter_at t d) ≡ d
 unfolding letters
-letter_digit-letter_at t d c low = eqb-true _ _ (and_right _ _ (at_row t d c low))
+letter_digit-letter_at t d c low = eqb-true _ _ (second_true _ _ (at_row t d c low))
 
 letter_at-rule : (t : CartanType) (d : ℕ) → IsCartan t → d < letter_count t → letter_at t d ≡ at_digit t.kind t.rank d
 unfolding letters
-letter_at-rule t d c low = int_eq-true _ _ (and_left _ _ (and_left _ _ (at_row t d c low)))
+letter_at-rule t d c low = int_eq-true _ _ (first_true _ _ (first_true _ _ (at_row t d c low)))
 
 pub letter_at-unbarred : (t : CartanType) (d : ℕ) → IsCartan t → d < letter_count t → d < coordinates t → letter_at t d ≡ pos (d + 1)
 letter_at-unbarred t d c low first = letter_at-rule t d c low ∙ grind (arith, nat_tests)
@@ -96,15 +95,6 @@ digit_rows B = refl
 digit_rows C = refl
 digit_rows D = refl
 
-coordinates-small : (t : CartanType) → IsCartan t → coordinates t ≤ 9
-coordinates-small t c = small t.kind t.rank c.high
-  where
-    small : (k : Kind) (r : ℕ) → r ≤ 8 → coordinates_of k r ≤ 9
-    small A r h = omega arith
-    small B r h = omega arith
-    small C r h = omega arith
-    small D r h = omega arith
-
 implied : (a b : Bool) → (not a || b) ≡ true → a ≡ true → b ≡ true
 implied true b h is = h
 implied false b h is = cc
@@ -112,16 +102,16 @@ implied false b h is = cc
 letter_from_test : (t : CartanType) (x : ℤ) → IsCartan t → is_there t.kind t.rank x ≡ true → IsLetter t x
 unfolding letters
 letter_from_test t (pos n) c h =
-    let low : n < coordinates t + 1 = below_from_test n (coordinates t + 1) (and_right (is_signed t.kind (pos n)) (nat_lt n (coordinates t + 1)) h) in
-    let row : there_cell t.kind t.rank n ≡ true = below_at 10 (there_cell t.kind t.rank) (ranks_at (λ k r. all_below 10 (there_cell k r)) there_rows t c) n (omega (arith, coordinates-small t c)) in
-    has-contains (letters_of t.kind t.rank) (pos n) (implied (is_there t.kind t.rank (pos n)) (has (letters_of t.kind t.rank) (pos n)) (and_left _ _ row) h)
+    let low : n < coordinates t + 1 = ltb-true n (coordinates t + 1) (second_true (is_signed t.kind (pos n)) (nat_lt n (coordinates t + 1)) h) in
+    let row : there_cell t.kind t.rank n ≡ true = below_at 10 (there_cell t.kind t.rank) (ranks_at (λ k r. all_below 10 (there_cell k r)) there_rows t c) n (omega (arith, coordinates_few t c)) in
+    has-contains (letters_of t.kind t.rank) (pos n) (implied (is_there t.kind t.rank (pos n)) (has (letters_of t.kind t.rank) (pos n)) (first_true _ _ row) h)
 letter_from_test t (negsuc n) c h =
-    let low : unsigned_abs (negsuc n) < coordinates t + 1 = below_from_test (unsigned_abs (negsuc n)) (coordinates t + 1) (and_right (is_signed t.kind (negsuc n)) (nat_lt (unsigned_abs (negsuc n)) (coordinates t + 1)) h) in
-    let row : there_cell t.kind t.rank n ≡ true = below_at 10 (there_cell t.kind t.rank) (ranks_at (λ k r. all_below 10 (there_cell k r)) there_rows t c) n (omega (arith, coordinates-small t c)) in
-    has-contains (letters_of t.kind t.rank) (negsuc n) (implied (is_there t.kind t.rank (negsuc n)) (has (letters_of t.kind t.rank) (negsuc n)) (and_right _ _ row) h)
+    let low : unsigned_abs (negsuc n) < coordinates t + 1 = ltb-true (unsigned_abs (negsuc n)) (coordinates t + 1) (second_true (is_signed t.kind (negsuc n)) (nat_lt (unsigned_abs (negsuc n)) (coordinates t + 1)) h) in
+    let row : there_cell t.kind t.rank n ≡ true = below_at 10 (there_cell t.kind t.rank) (ranks_at (λ k r. all_below 10 (there_cell k r)) there_rows t c) n (omega (arith, coordinates_few t c)) in
+    has-contains (letters_of t.kind t.rank) (negsuc n) (implied (is_there t.kind t.rank (negsuc n)) (has (letters_of t.kind t.rank) (negsuc n)) (second_true _ _ row) h)
 
 pub test_from_letter : (t : CartanType) (x : ℤ) → IsCartan t → IsLetter t x → is_there t.kind t.rank x ≡ true
-test_from_letter t x c there = and_right _ _ (letters_at digit_cell digit_rows t x c there)
+test_from_letter t x c there = second_true _ _ (letters_at digit_cell digit_rows t x c there)
 
 pub is_letter-iff : (t : CartanType) (k : Kind) (x : ℤ) (result : Bool) → IsCartan t → k ≡ t.kind
     → result ≡ (is_signed k x && nat_lt (unsigned_abs x) (coordinates t + 1)) → IsTrue result ↔ IsLetter t x
@@ -150,7 +140,7 @@ nonzero_test x h = false_from_not (int_eq x (pos 0)) (λ is. h (int_eq-true x (p
 pub height-unbarred : (t : CartanType) (x : ℤ) → IsCartan t → IsLetter t x → unsigned_abs x ≤ coordinates t
 height-unbarred t x c there =
     let low : unsigned_abs x < coordinates t + 1 =
-    below_from_test (unsigned_abs x) (coordinates t + 1) (and_right (is_signed t.kind x) (nat_lt (unsigned_abs x) (coordinates t + 1)) (test_from_letter t x c there)) in
+    ltb-true (unsigned_abs x) (coordinates t + 1) (second_true (is_signed t.kind x) (nat_lt (unsigned_abs x) (coordinates t + 1)) (test_from_letter t x c there)) in
     omega arith
 
 pub height-fits : (t : CartanType) (x : ℤ) → IsCartan t → IsLetter t x → unsigned_abs x ≤ letter_count t
@@ -170,9 +160,9 @@ is_digit : (t : CartanType) (x : ℤ) (d : ℕ) → IsCartan t → IsLetter t x 
 unfolding letters
 is_digit t x d c there is =
     let row = letters_at digit_cell digit_rows t x c there in
-    let first = and_left _ _ row in
-    let second = and_left _ _ first in
-    rw is (sym (eqb-true _ _ (and_left _ _ second)), below_from_test _ _ (and_right _ _ second), int_eq-true _ _ (and_right _ _ first))
+    let first = first_true _ _ row in
+    let second = first_true _ _ first in
+    rw is (sym (eqb-true _ _ (first_true _ _ second)), ltb-true _ _ (second_true _ _ second), int_eq-true _ _ (second_true _ _ first))
 
 pub letter_digit-below : (t : CartanType) (x : ℤ) → IsCartan t → IsLetter t x → letter_digit t x < letter_count t
 letter_digit-below t x c there =

@@ -5,6 +5,7 @@ use Rattle.std.specs.Int.Signed.{lt_z}
 use Rattle.std.proofs.lemmas.Bool.{eqb-true}
 use Rattle.std.proofs.lemmas.Bool.Decides.{nat_tests}
 use Rattle.std.proofs.lemmas.Int.{ints}
+use Rattle.list_facts.proofs.Truth.{first_true, second_true}
 use Rattle.crystal_cartan.specs.Types.{CartanType, IsCartan, HasIndex}
 use Rattle.crystal_cartan.specs.Crystals.{Edge, target, origin, times_taken}
 use Rattle.crystal_cartan.specs.declared.types.Kind.{Kind}
@@ -12,7 +13,7 @@ use Rattle.crystal_cartan.specs.declared.types.Kind.TheVariants.{A, B, C, D}
 use Rattle.vector_crystals.specs.Letters.{letters, letters_of, IsLetter}
 use Rattle.vector_crystals.specs.VectorCrystals.{first_edges, last_edges, vector_edges_of, vector_edges, letter_action}
 use Rattle.vector_crystals.specs.declared.letters.Letter.{Letter}
-use Rattle.vector_crystals.proofs.Tables.{and_left, and_right, has, has-contains, if_some, all_cells, cells_at, option_eq-true}
+use Rattle.vector_crystals.proofs.Tables.{has, has-contains, if_some, all_cells, cells_at, option_eq-true}
 
 -- the arrows of the index i
 abbrev pub near_edges : Kind → ℕ → ℕ → List (Edge ℤ)
@@ -122,11 +123,11 @@ some_letter t (Some y) h = has-contains (letters_of t.kind t.rank) y h
 
 pub lower-letter : (t : CartanType) (i : ℕ) (x : ℤ) → IsCartan t → HasIndex t i → IsLetter t x → IfSome ((letter_action t i).lower x) (IsLetter t)
 lower-letter t i x c index there =
-    rw (lower_near t i x c index there) (some_letter t _ (and_left _ _ (cells_at letter_cell letter_rows t i x c index there)))
+    rw (lower_near t i x c index there) (some_letter t _ (first_true _ _ (cells_at letter_cell letter_rows t i x c index there)))
 
 pub raise-letter : (t : CartanType) (i : ℕ) (x : ℤ) → IsCartan t → HasIndex t i → IsLetter t x → IfSome ((letter_action t i).raise x) (IsLetter t)
 raise-letter t i x c index there =
-    rw (raise_near t i x c index there) (some_letter t _ (and_right _ _ (cells_at letter_cell letter_rows t i x c index there)))
+    rw (raise_near t i x c index there) (some_letter t _ (second_true _ _ (cells_at letter_cell letter_rows t i x c index there)))
 
 pub is_letter_result : (t : CartanType) (result : Option Letter) (value : Option ℤ) → option_map (λ y. y.0) result ≡ value → IfSome value (IsLetter t) → IfSome result (λ y. IsLetter t y.0)
 is_letter_result t None value is there = tt

@@ -1,11 +1,12 @@
 -- Weights of letters, and the laws of a seminormal crystal on letters and on their digits.
-use Rattle.std.proofs.Common.{◌≡◌, ℕ, zero, suc, ◌+◌, ◌-◌, ◌<◌, ◌==◌, Bool, true, false, ◌&&◌, if◌then◌else◌, List, slice_set, slice_index_or, All, ℤ, pos, negsuc, ◌<ℤ◌, ◌≤ℤ◌, ◌+ℤ◌, ◌-ℤ◌, unsigned_abs, Option, Some, None, IfSome, ◌↔◌, arith, refl, sym, ap, ◌∙◌, int_eq}
+use Rattle.std.proofs.Common.{◌≡◌, ℕ, zero, suc, ◌+◌, ◌-◌, ◌<◌, ◌==◌, Bool, true, false, ◌&&◌, if◌then◌else◌, List, slice_set, slice_index_or, All, ℤ, pos, negsuc, ◌<ℤ◌, ◌+ℤ◌, ◌-ℤ◌, unsigned_abs, Option, Some, None, IfSome, ◌↔◌, arith, refl, sym, ap, ◌∙◌, int_eq}
 use Rattle.std.specs.List.{range_with_len}
 use Rattle.std.specs.Int.Signed.{lt_z}
 use Rattle.std.specs.Option.{option_eq, option_map}
 use Rattle.std.proofs.lemmas.Bool.{eqb-true}
 use Rattle.std.proofs.lemmas.Int.{ints}
 use Rattle.std.proofs.lemmas.List.Elements.{All-map}
+use Rattle.list_facts.proofs.Truth.{first_true, second_true}
 use Rattle.crystal_cartan.specs.Types.{CartanType, IsCartan, HasIndex, coordinates}
 use Rattle.crystal_cartan.specs.Weights.{zero_weight, difference_of, root, twice_pairing, IsWithin}
 use Rattle.crystal_cartan.specs.Crystals.{Action, target, origin}
@@ -14,9 +15,9 @@ use Rattle.crystal_cartan.specs.declared.types.Kind.{Kind}
 use Rattle.crystal_cartan.specs.declared.types.Kind.TheVariants.{A, B, C, D}
 use Rattle.vector_crystals.specs.Letters.{barred, IsLetter, letter_count, letter_at, letter_digit}
 use Rattle.vector_crystals.specs.VectorCrystals.{letter_action, digit_action, letter_weight}
-use Rattle.vector_crystals.proofs.Tables.{and_left, and_right, if_some, some_at, same_list, same_list-true, all_letters, letters_at, all_cells, cells_at, int_eq-true, option_eq-true}
+use Rattle.vector_crystals.proofs.Tables.{if_some, some_at, same_list, same_list-true, all_letters, letters_at, all_cells, cells_at, int_eq-true, option_eq-true}
 use Rattle.vector_crystals.proofs.Rules.{near_edges, is_long, steps_of, lower_near, raise_near, lower-letter, raise-letter, phi_near, eps_near}
-use Rattle.vector_crystals.proofs.Digits.{letter_at-letter, letter_digit-letter_at, letter_digit-below, letter_at-letter_digit}
+use Rattle.vector_crystals.proofs.Digits.{letter_at-letter, letter_digit-letter_at, letter_at-letter_digit}
 
 abbrev type_of : Kind → ℕ → CartanType
 type_of k r = record { kind = k; rank = r }
@@ -146,13 +147,13 @@ eps_rule t i x c index there =
 raised_back : (t : CartanType) (i : ℕ) (x y : ℤ) → IsCartan t → HasIndex t i → IsLetter t x → (letter_action t i).lower x ≡ Some y → (letter_action t i).raise y ≡ Some x
 raised_back t i x y c index there is =
     let other = some_letter_at t _ y (lower-letter t i x c index there) is in
-    let row = and_left _ _ (cells_at back_cell back_rows t i x c index there) in
+    let row = first_true _ _ (cells_at back_cell back_rows t i x c index there) in
     raise_near t i y c index other ∙ option_eq-true _ _ (some_at (λ z. option_eq int_eq (raised t.kind t.rank i z) (Some x)) (lowered t.kind t.rank i x) y row (sym (lower_near t i x c index there) ∙ is))
 
 lowered_back : (t : CartanType) (i : ℕ) (x y : ℤ) → IsCartan t → HasIndex t i → IsLetter t x → (letter_action t i).raise x ≡ Some y → (letter_action t i).lower y ≡ Some x
 lowered_back t i x y c index there is =
     let other = some_letter_at t _ y (raise-letter t i x c index there) is in
-    let row = and_right _ _ (cells_at back_cell back_rows t i x c index there) in
+    let row = second_true _ _ (cells_at back_cell back_rows t i x c index there) in
     lower_near t i y c index other ∙ option_eq-true _ _ (some_at (λ z. option_eq int_eq (lowered t.kind t.rank i z) (Some x)) (raised t.kind t.rank i x) y row (sym (raise_near t i x c index there) ∙ is))
 
 lower_counts : (t : CartanType) (i : ℕ) (x y : ℤ) → IsCartan t → HasIndex t i → IsLetter t x → (letter_action t i).lower x ≡ Some y
@@ -161,8 +162,8 @@ lower_counts t i x y c index there is =
     let other = some_letter_at t _ y (lower-letter t i x c index there) is in
     let row = some_at (λ z. (phi_of t.kind t.rank i x == phi_of t.kind t.rank i z + 1) && (eps_of t.kind t.rank i z == eps_of t.kind t.rank i x + 1)) (lowered t.kind t.rank i x) y
     (cells_at count_cell count_rows t i x c index there) (sym (lower_near t i x c index there) ∙ is) in (
-      phi_rule t i x c index there ∙ (eqb-true _ _ (and_left _ _ row) ∙ ap (λ n. n + 1) (sym (phi_rule t i y c index other))),
-      eps_rule t i y c index other ∙ (eqb-true _ _ (and_right _ _ row) ∙ ap (λ n. n + 1) (sym (eps_rule t i x c index there))),
+      phi_rule t i x c index there ∙ (eqb-true _ _ (first_true _ _ row) ∙ ap (λ n. n + 1) (sym (phi_rule t i y c index other))),
+      eps_rule t i y c index other ∙ (eqb-true _ _ (second_true _ _ row) ∙ ap (λ n. n + 1) (sym (eps_rule t i x c index there))),
     )
 
 pub letter_seminormal : (t : CartanType) (i : ℕ) (x : ℤ) → IsCartan t → HasIndex t i → IsLetter t x
@@ -203,18 +204,6 @@ carried_to : (t : CartanType) (o : Option ℤ) (e : ℕ) → IsCartan t → IfSo
 carried_to t o e c there is =
     let from = mapped_some (letter_digit t) o e is in
     from.1 ∙ ap Some (sym (letter_at-letter_digit t from.0 c (some_letter_at t o from.0 there from.1)) ∙ ap (letter_at t) from.2)
-
-carried_below : (t : CartanType) (o : Option ℤ) → IsCartan t → IfSome o (IsLetter t) → IfSome (option_map (letter_digit t) o) (λ e. e < letter_count t)
-carried_below t None c there = tt
-carried_below t (Some y) c there = letter_digit-below t y c there
-
-pub digit_lower-below : (t : CartanType) (i d : ℕ) → IsCartan t → HasIndex t i → d < letter_count t → IfSome ((digit_action t i).lower d) (λ e. e < letter_count t)
-unfolding digit_action
-digit_lower-below t i d c index low = carried_below t _ c (lower-letter t i (letter_at t d) c index (letter_at-letter t d c low))
-
-pub digit_raise-below : (t : CartanType) (i d : ℕ) → IsCartan t → HasIndex t i → d < letter_count t → IfSome ((digit_action t i).raise d) (λ e. e < letter_count t)
-unfolding digit_action
-digit_raise-below t i d c index low = carried_below t _ c (raise-letter t i (letter_at t d) c index (letter_at-letter t d c low))
 
 pub digit_seminormal : (t : CartanType) (i d : ℕ) → IsCartan t → HasIndex t i → d < letter_count t
     → IsSeminormal t i (digit_action t i) (λ e. letter_weight t (letter_at t e)) d

@@ -1,28 +1,19 @@
 -- From a test that was computed at every type, index and letter to the test at any one of them.
-use Rattle.std.proofs.Common.{◌≡◌, ℕ, zero, suc, ◌+◌, ◌-◌, ◌≤◌, ◌<◌, Bool, true, false, ◌&&◌, ◌||◌, nat_lt, List, [], ◌∷◌, Contains, ℤ, Option, Some, None, arith, refl, ap, subst, int_eq}
+use Rattle.std.proofs.Common.{◌≡◌, ℕ, zero, suc, ◌+◌, ◌-◌, ◌<◌, Bool, true, false, ◌&&◌, ◌||◌, nat_lt, List, [], ◌∷◌, Contains, ℤ, Option, Some, None, arith, refl, ap, subst, int_eq}
 use Rattle.std.specs.List.{AllByRecursion}
 use Rattle.std.specs.Option.{option_eq}
 use borrow.Author.Count.{below_more}
-use Rattle.std.proofs.lemmas.Bool.Decides.{nat_tests, Decides-int_eq}
+use Rattle.std.proofs.lemmas.Bool.Decides.{Decides-int_eq}
 use Rattle.std.proofs.lemmas.List.Elements.{All-contains, All-from_recursion, Contains-append_left, Contains-append_right, Contains-push}
+use Rattle.std.proofs.lemmas.Bool.{le-ltb}
+use Rattle.list_facts.proofs.Truth.{first_true, second_true}
 use Rattle.crystal_cartan.specs.Types.{CartanType, IsCartan, HasIndex, least_rank}
 use Rattle.crystal_cartan.specs.declared.types.Kind.{Kind}
 use Rattle.vector_crystals.specs.Letters.{letters, letters_of, IsLetter}
 
-pub and_left : (a b : Bool) → (a && b) ≡ true → a ≡ true
-and_left true b h = refl
-and_left false b h = h
-
-pub and_right : (a b : Bool) → (a && b) ≡ true → b ≡ true
-and_right true b h = h
-and_right false b h = cc
-
 or_right : (a b : Bool) → (a || b) ≡ true → a ≡ false → b ≡ true
 or_right true b h fails = cc
 or_right false b h fails = h
-
-not_below : (a b : ℕ) → b ≤ a → nat_lt a b ≡ false
-not_below a b h = grind (arith, nat_tests)
 
 pub int_eq-true : (x y : ℤ) → int_eq x y ≡ true → x ≡ y
 int_eq-true x y h = (Decides-int_eq x y).0 h
@@ -40,7 +31,7 @@ all_below (suc n) p = p n && all_below n p
 
 pub below_at : (n : ℕ) (p : ℕ → Bool) → all_below n p ≡ true → (k : ℕ) → k < n → p k ≡ true
 below_at zero p h k l = absurd (omega arith)
-below_at (suc n) p h k l = below_more (λ j. p j ≡ true) n (below_at n p (and_right _ _ h)) (and_left _ _ h) k (omega arith)
+below_at (suc n) p h k l = below_more (λ j. p j ≡ true) n (below_at n p (second_true _ _ h)) (first_true _ _ h) k (omega arith)
 
 -- the test passes at every element
 abbrev pub all_in : {E : Type 0} → (E → Bool) → List E → Bool
@@ -49,7 +40,7 @@ all_in p (x ∷ xs) = p x && all_in p xs
 
 each_in : {E : Type 0} (p : E → Bool) (xs : List E) → all_in p xs ≡ true → AllByRecursion (λ x. p x ≡ true) xs
 each_in p [] h = tt
-each_in p (x ∷ xs) h = (and_left _ _ h, each_in p xs (and_right _ _ h))
+each_in p (x ∷ xs) h = (first_true _ _ h, each_in p xs (second_true _ _ h))
 
 pub in_at : {E : Type 0} (p : E → Bool) (xs : List E) → all_in p xs ≡ true → (x : E) → Contains xs x → p x ≡ true
 in_at p xs h x there = All-contains (λ y. p y ≡ true) xs x (All-from_recursion (λ y. p y ≡ true) xs (each_in p xs h)) there
@@ -87,8 +78,8 @@ same_list-true [] [] h = refl
 same_list-true [] (y ∷ ys) h = cc
 same_list-true (x ∷ xs) [] h = cc
 same_list-true (x ∷ xs) (y ∷ ys) h =
-    let first : x ≡ y = int_eq-true x y (and_left (int_eq x y) (same_list xs ys) h) in
-    let rest : xs ≡ ys = same_list-true xs ys (and_right (int_eq x y) (same_list xs ys) h) in
+    let first : x ≡ y = int_eq-true x y (first_true (int_eq x y) (same_list xs ys) h) in
+    let rest : xs ≡ ys = same_list-true xs ys (second_true (int_eq x y) (same_list xs ys) h) in
     cc
 
 -- the test passes at every rank of a kind
@@ -106,7 +97,7 @@ all_cells cell = all_letters (λ k r x. all_below r (λ j. cell k r (j + 1) x))
 pub ranks_at : (test : Kind → ℕ → Bool) → ((k : Kind) → all_ranks test k ≡ true) → (t : CartanType) → IsCartan t → test t.kind t.rank ≡ true
 ranks_at test rows t c =
     let row : (nat_lt t.rank (least_rank t.kind) || test t.kind t.rank) ≡ true = below_at 9 (λ r. nat_lt r (least_rank t.kind) || test t.kind r) (rows t.kind) t.rank (omega (arith, c.high)) in
-    or_right (nat_lt t.rank (least_rank t.kind)) (test t.kind t.rank) row (not_below t.rank (least_rank t.kind) c.low)
+    or_right (nat_lt t.rank (least_rank t.kind)) (test t.kind t.rank) row (le-ltb t.rank (least_rank t.kind) c.low)
 
 pub letters_at : (cell : Kind → ℕ → ℤ → Bool) → ((k : Kind) → all_letters cell k ≡ true) → (t : CartanType) (x : ℤ) → IsCartan t → IsLetter t x → cell t.kind t.rank x ≡ true
 unfolding letters

@@ -4,12 +4,13 @@ use Rattle.std.proofs.lemmas.List.Elements.{Contains-append_left, Contains-push}
 use Rattle.graph_history.specs.declared.event.Origin.{Origin}
 use Rattle.graph_history.specs.declared.event.Act.{Act}
 use Rattle.graph_history.specs.declared.event.Act.TheVariants.{Added, Met}
+use Rattle.graph_rule.specs.Told.{probed}
 use Rattle.wide_words.specs.declared.spaces.WideCode.{WideCode}
 use Rattle.wide_words.specs.WideSpaces.{number}
 use Rattle.wide_words.specs.WideHistory.{WideWorldType}
-use Rattle.wide_rule.specs.declared.own.Own.{Own}
+use Rattle.wide_rule.specs.declared.dues.WideDues.{WideDues}
 use Rattle.wide_rule.specs.Layout.{HasSeen}
-use Rattle.wide_rule.specs.Told.{probed, claim_second_acts, with_seen, saw, claimed, tried, unless, finished}
+use Rattle.wide_rule.specs.Told.{claim_second_acts, with_seen, saw, claimed, tried, unless, finished}
 
 -- the acts of a load
 module _ (n half : ℕ) (last : Bool) (empty same other : List Act) where
@@ -51,66 +52,66 @@ module _ (w : WideWorldType) (c : ℕ) (x : WideCode) (o : Origin) (n : ℕ) whe
       ap (λ (t : Bool). if t then added else (if n == x.low + 1 then met else [])) (ne_eqb n 0 z) ∙ ap (λ (t : Bool). if t then met else []) (ne_eqb n (x.low + 1) e)
 
 -- one first word more
-module _ (c n : ℕ) (own : Own) where
-  more_keeps : (d m : ℕ) → HasSeen own.seen d m → HasSeen (own.seen ++ record { cell = c; word = n } ∷ []) d m
-  more_keeps d m has = Contains-append_left own.seen (record { cell = c; word = n } ∷ []) (record { cell = d; word = m }) has
+module _ (c n : ℕ) (dues : WideDues) where
+  more_keeps : (d m : ℕ) → HasSeen dues.seen d m → HasSeen (dues.seen ++ record { cell = c; word = n } ∷ []) d m
+  more_keeps d m has = Contains-append_left dues.seen (record { cell = c; word = n } ∷ []) (record { cell = d; word = m }) has
 
-  more_has : HasSeen (own.seen ++ record { cell = c; word = n } ∷ []) c n
-  more_has = Contains-push own.seen (record { cell = c; word = n })
+  more_has : HasSeen (dues.seen ++ record { cell = c; word = n } ∷ []) c n
+  more_has = Contains-push dues.seen (record { cell = c; word = n })
 
 -- after a load of a first word
-module _ (c n : ℕ) (own : Own) where
-  pub saw_owed : (saw c n own).owed ≡ own.owed
+module _ (c n : ℕ) (dues : WideDues) where
+  pub saw_owed : (saw c n dues).owed ≡ dues.owed
   saw_owed = by (n == 0)
     where
-      by : (b : Bool) → (if b then own else with_seen c n own).owed ≡ own.owed
+      by : (b : Bool) → (if b then dues else with_seen c n dues).owed ≡ dues.owed
       by true = refl
       by false = refl
 
-  pub saw_pending : (saw c n own).pending ≡ own.pending
+  pub saw_pending : (saw c n dues).pending ≡ dues.pending
   saw_pending = by (n == 0)
     where
-      by : (b : Bool) → (if b then own else with_seen c n own).pending ≡ own.pending
+      by : (b : Bool) → (if b then dues else with_seen c n dues).pending ≡ dues.pending
       by true = refl
       by false = refl
 
-  pub saw_keeps : (d m : ℕ) → HasSeen own.seen d m → HasSeen (saw c n own).seen d m
+  pub saw_keeps : (d m : ℕ) → HasSeen dues.seen d m → HasSeen (saw c n dues).seen d m
   saw_keeps d m has = by (n == 0)
     where
-      by : (b : Bool) → HasSeen (if b then own else with_seen c n own).seen d m
+      by : (b : Bool) → HasSeen (if b then dues else with_seen c n dues).seen d m
       by true = has
-      by false = more_keeps c n own d m has
+      by false = more_keeps c n dues d m has
 
-  pub saw_has : n ≢ 0 → HasSeen (saw c n own).seen c n
-  saw_has z = subst (λ (b : Bool). HasSeen (if b then own else with_seen c n own).seen c n) (sym (ne_eqb n 0 z)) (more_has c n own)
+  pub saw_has : n ≢ 0 → HasSeen (saw c n dues).seen c n
+  saw_has z = subst (λ (b : Bool). HasSeen (if b then dues else with_seen c n dues).seen c n) (sym (ne_eqb n 0 z)) (more_has c n dues)
 
 -- after an exchange of a first word
-module _ (c : ℕ) (x : WideCode) (n : ℕ) (own : Own) where
-  pub tried_owed : (tried c x n own).owed ≡ own.owed
+module _ (c : ℕ) (x : WideCode) (n : ℕ) (dues : WideDues) where
+  pub tried_owed : (tried c x n dues).owed ≡ dues.owed
   tried_owed = by (n == 0)
     where
-      by : (b : Bool) → (if b then claimed c x own else with_seen c n own).owed ≡ own.owed
+      by : (b : Bool) → (if b then claimed c x dues else with_seen c n dues).owed ≡ dues.owed
       by true = refl
       by false = refl
 
-  pub tried_keeps : (d m : ℕ) → HasSeen own.seen d m → HasSeen (tried c x n own).seen d m
+  pub tried_keeps : (d m : ℕ) → HasSeen dues.seen d m → HasSeen (tried c x n dues).seen d m
   tried_keeps d m has = by (n == 0)
     where
-      by : (b : Bool) → HasSeen (if b then claimed c x own else with_seen c n own).seen d m
-      by true = more_keeps c (x.high + 1) own d m has
-      by false = more_keeps c n own d m has
+      by : (b : Bool) → HasSeen (if b then claimed c x dues else with_seen c n dues).seen d m
+      by true = more_keeps c (x.high + 1) dues d m has
+      by false = more_keeps c n dues d m has
 
-  pub tried_won : n ≡ 0 → tried c x n own ≡ claimed c x own
-  tried_won e = ap (λ (b : Bool). if b then claimed c x own else with_seen c n own) (eq-eqb n 0 e)
+  pub tried_won : n ≡ 0 → tried c x n dues ≡ claimed c x dues
+  tried_won e = ap (λ (b : Bool). if b then claimed c x dues else with_seen c n dues) (eq-eqb n 0 e)
 
-  pub tried_lost : n ≢ 0 → tried c x n own ≡ with_seen c n own
-  tried_lost z = ap (λ (b : Bool). if b then claimed c x own else with_seen c n own) (ne_eqb n 0 z)
+  pub tried_lost : n ≢ 0 → tried c x n dues ≡ with_seen c n dues
+  tried_lost z = ap (λ (b : Bool). if b then claimed c x dues else with_seen c n dues) (ne_eqb n 0 z)
 
-  pub claimed_has : HasSeen (claimed c x own).seen c (x.high + 1)
-  claimed_has = more_has c (x.high + 1) own
+  pub claimed_has : HasSeen (claimed c x dues).seen c (x.high + 1)
+  claimed_has = more_has c (x.high + 1) dues
 
-  pub seen_has : HasSeen (with_seen c n own).seen c n
-  seen_has = more_has c n own
+  pub seen_has : HasSeen (with_seen c n dues).seen c n
+  seen_has = more_has c n dues
 
 -- a cell that was pending is not any more
 pub unless_same : (c : ℕ) → unless c (Some c) ≡ None
@@ -120,29 +121,29 @@ pub unless_idle : (c : ℕ) (p : Option ℕ) → p ≡ None → unless c p ≡ N
 unless_idle c p e = ap (unless c) e
 
 -- after an exchange of a second word
-module _ (c n : ℕ) (own : Own) where
-  abbrev won : Own
-  won = record own { owed = own.owed ++ c ∷ []; pending = unless c own.pending }
+module _ (c n : ℕ) (dues : WideDues) where
+  abbrev won : WideDues
+  won = record dues { owed = dues.owed ++ c ∷ []; pending = unless c dues.pending }
 
-  abbrev lost : Own
-  lost = record own { pending = unless c own.pending }
+  abbrev lost : WideDues
+  lost = record dues { pending = unless c dues.pending }
 
-  pub finished_pending : (finished c n own).pending ≡ unless c own.pending
+  pub finished_pending : (finished c n dues).pending ≡ unless c dues.pending
   finished_pending = by (n == 0)
     where
-      by : (b : Bool) → (if b then won else lost).pending ≡ unless c own.pending
+      by : (b : Bool) → (if b then won else lost).pending ≡ unless c dues.pending
       by true = refl
       by false = refl
 
-  pub finished_keeps : (d m : ℕ) → HasSeen own.seen d m → HasSeen (finished c n own).seen d m
+  pub finished_keeps : (d m : ℕ) → HasSeen dues.seen d m → HasSeen (finished c n dues).seen d m
   finished_keeps d m has = by (n == 0)
     where
       by : (b : Bool) → HasSeen (if b then won else lost).seen d m
       by true = has
       by false = has
 
-  pub finished_owes : n ≡ 0 → (finished c n own).owed ≡ own.owed ++ c ∷ []
+  pub finished_owes : n ≡ 0 → (finished c n dues).owed ≡ dues.owed ++ c ∷ []
   finished_owes e = ap (λ (b : Bool). (if b then won else lost).owed) (eq-eqb n 0 e)
 
-  pub finished_owed : n ≢ 0 → (finished c n own).owed ≡ own.owed
+  pub finished_owed : n ≢ 0 → (finished c n dues).owed ≡ dues.owed
   finished_owed z = ap (λ (b : Bool). (if b then won else lost).owed) (ne_eqb n 0 z)

@@ -14,15 +14,15 @@ use Rattle.wide_words.specs.declared.spaces.WideCode.{WideCode}
 use Rattle.wide_words.specs.WideSpaces.{number}
 use Rattle.wide_words.specs.WideHistory.{WideWorldType, IsWideAct, IsWideLegal}
 use Rattle.wide_words.proofs.WideSound.{wide_at}
-use Rattle.wide_rule.specs.declared.own.Own.{Own}
+use Rattle.wide_rule.specs.declared.dues.WideDues.{WideDues}
 use Rattle.wide_rule.specs.Rule.{WideView}
 use Rattle.wide_rule.specs.Told.{Advances}
 use Rattle.wide_rule.specs.Values.{WideGraphValue, WideSeatValue, Belongs}
 use Rattle.wide_graph.specs.Entries.{Ends, Enters, IsAddedIn, Finds}
 
 -- the one act of a step was legal where it was done
-step_state : (v w : WideView) (act : Act) (own : Own) → Advances v w (act ∷ []) own → (s : State) × IsWideAct w.world s act × (state_of w.front ≡ after s act)
-step_state v w act own a =
+step_state : (v w : WideView) (act : Act) (dues : WideDues) → Advances v w (act ∷ []) dues → (s : State) × IsWideAct w.world s act × (state_of w.front ≡ after s act)
+step_state v w act dues a =
     let is = ap (λ (z : WideView). z.front) a.is in
     let h = v.front ++ a.between in
     let e : Event = record { caller = v.number; act = act } in
@@ -35,20 +35,20 @@ module _ (v w : WideView) (x : ℕ) (more : List ℕ) where
 
   added_there : (c : ℕ) (o : Origin) → Ends v w (AddedAct c x o) more → HasVertex (state_of w.front) c x
   added_there c o e =
-      let r = step_state v w (AddedAct c x o) e.own e.advances in
+      let r = step_state v w (AddedAct c x o) e.dues e.advances in
       subst (λ (s : State). HasVertex s c x) (sym r.2) (vertex_at-new r.0.vertices (record { cell = c; code = x }) r.1.free)
 
   met_there : (c : ℕ) → Ends v w (Met c x) more → HasVertex (state_of w.front) c x
-  met_there c e = let r = step_state v w (Met c x) e.own e.advances in subst (λ (s : State). HasVertex s c x) (sym r.2) r.1
+  met_there c e = let r = step_state v w (Met c x) e.dues e.advances in subst (λ (s : State). HasVertex s c x) (sym r.2) r.1
 
   missed_new : Ends v w (Missed x) more → IsNew (state_of w.front) x
   missed_new e =
-      let r = step_state v w (Missed x) e.own e.advances in
+      let r = step_state v w (Missed x) e.dues e.advances in
       λ c there. r.1.fresh c (subst (λ (s : State). HasVertex s c x) r.2 there)
 
   spent_full : Ends v w (Spent x) more → IsNew (state_of w.front) x × (v.world.capacity ≤ length (state_of w.front).vertices)
   spent_full e =
-      let r = step_state v w (Spent x) e.own e.advances in
+      let r = step_state v w (Spent x) e.dues e.advances in
       let full = subst (λ (s : State). w.world.capacity ≤ length s.vertices) (sym r.2) r.1.full in (
         λ c there. r.1.fresh c (subst (λ (s : State). HasVertex s c x) r.2 there),
         subst (λ (k : WideWorldType). k.capacity ≤ length (state_of w.front).vertices) (world_ends (Spent x) e) full,
@@ -77,9 +77,9 @@ module _ (first : WideSeatValue) (g : WideGraphValue) (b : Belongs first g) (w :
       (by_search first.view w (number first.view.world.space x) answer e)
 
 -- after a drawing the arrow is drawn, whoever did it
-pub drawn_then : (v w : WideView) (own : Own) (c : ℕ) (a : Arrow) (t : Option ℕ) (b : Bool) → Advances v w (drawn_acts c a t b) own → HasArrow (state_of w.front) c a t
-drawn_then v w own c a t true step =
-    let r = step_state v w (Drew c a t) own step in
+pub drawn_then : (v w : WideView) (dues : WideDues) (c : ℕ) (a : Arrow) (t : Option ℕ) (b : Bool) → Advances v w (drawn_acts c a t b) dues → HasArrow (state_of w.front) c a t
+drawn_then v w dues c a t true step =
+    let r = step_state v w (Drew c a t) dues step in
     subst (λ (s : State). HasArrow s c a t) (sym r.2) (target_at-new r.0.drawn (record { cell = c; arrow = a; to = t }) c a (own_edge c c a a refl refl) r.1.undrawn)
-drawn_then v w own c a t false step =
-    let r = step_state v w (Saw c a t) own step in subst (λ (s : State). HasArrow s c a t) (sym r.2) r.1
+drawn_then v w dues c a t false step =
+    let r = step_state v w (Saw c a t) dues step in subst (λ (s : State). HasArrow s c a t) (sym r.2) r.1

@@ -5,18 +5,19 @@ use Rattle.graph_history.specs.declared.event.Origin.{Origin}
 use Rattle.graph_history.specs.declared.event.Act.{Act}
 use Rattle.graph_history.specs.declared.event.Act.TheVariants.{Added as AddedAct, Met, Missed, Spent}
 use Rattle.graph_history.specs.declared.event.Event.{Event}
-use Rattle.graph_history.specs.History.{state_of, IsOrigin}
+use Rattle.graph_history.specs.History.{state_of, IsOrigin, caller_of}
 use Rattle.graph_history.specs.Laws.{Stays}
 use Rattle.graph_history.specs.Desks.{by}
 use Rattle.graph_rule.proofs.CellSteps.{origin_stays}
-use Rattle.graph_rule.proofs.Views.{stays_prefix, calls-append}
+use Rattle.graph_rule.proofs.Views.{stays_prefix}
+use Rattle.graph_history.proofs.Growing.{calls_both}
 use Rattle.shared_seats.specs.Seats.{calls}
 use Rattle.wide_words.specs.declared.spaces.WideCode.{WideCode}
 use Rattle.wide_words.specs.WideSpaces.{IsWide, number}
 use Rattle.wide_words.specs.WideHistory.{WideWorldType, flat}
-use Rattle.wide_rule.specs.declared.own.Own.{Own}
+use Rattle.wide_rule.specs.declared.dues.WideDues.{WideDues}
 use Rattle.wide_rule.specs.Layout.{is_last, cell_on, HasSeen, IsPassed, IsSearched}
-use Rattle.wide_rule.specs.Rule.{WideView, caller_of}
+use Rattle.wide_rule.specs.Rule.{WideView}
 use Rattle.wide_rule.specs.Told.{advanced, Advances}
 use Rattle.wide_rule.specs.Values.{WideGraphValue, WideSeatValue}
 use Rattle.wide_graph.specs.declared.entries.Tried.{Tried}
@@ -30,7 +31,7 @@ use Rattle.wide_graph.specs.Search.{Looked, Passing, Probing, Tries, Seeks}
 pub looked_none : (v : WideView) → Looked v v
 looked_none v = record {
   between = [];
-  own = v.own;
+  dues = v.dues;
   is = λ i. record v { front = sym (append-nil v.front) i };
   owed = refl;
   seen = λ c n has. has;
@@ -39,9 +40,9 @@ looked_none v = record {
 }
 
 -- one step
-module _ (v w : WideView) (acts : List Act) (own : Own) (a : Advances v w acts own) where
-  pub own_after : w.own ≡ own
-  own_after = ap (λ (z : WideView). z.own) a.is
+module _ (v w : WideView) (acts : List Act) (dues : WideDues) (a : Advances v w acts dues) where
+  pub own_after : w.dues ≡ dues
+  own_after = ap (λ (z : WideView). z.dues) a.is
 
   pub world_after : w.world ≡ v.world
   world_after = ap (λ (z : WideView). z.world) a.is
@@ -49,17 +50,17 @@ module _ (v w : WideView) (acts : List Act) (own : Own) (a : Advances v w acts o
   pub advanced_stays : Stays (state_of v.front) (state_of w.front)
   advanced_stays = stays_prefix v.front w.front (a.between ++ by v.number acts, ap (λ (z : WideView). z.front) a.is ∙ append_assoc v.front a.between (by v.number acts))
 
-  pub acts_are : (others : List Act) → acts ≡ others → Advances v w others own
-  acts_are others same = subst (λ (l : List Act). Advances v w l own) same a
+  pub acts_are : (others : List Act) → acts ≡ others → Advances v w others dues
+  acts_are others same = subst (λ (l : List Act). Advances v w l dues) same a
 
   -- that has no event
-  pub looked_step : acts ≡ [] → own.owed ≡ v.own.owed → ((c n : ℕ) → HasSeen v.own.seen c n → HasSeen own.seen c n) → Looked v w
+  pub looked_step : acts ≡ [] → dues.owed ≡ v.dues.owed → ((c n : ℕ) → HasSeen v.dues.seen c n → HasSeen dues.seen c n) → Looked v w
   looked_step none owed kept =
       let b = acts_are [] none in
       record {
         between = b.between;
-        own = own;
-        is = b.is ∙ (λ i. record v { calls = append-nil v.calls i; front = append-nil (v.front ++ b.between) i; own = own });
+        dues = dues;
+        is = b.is ∙ (λ i. record v { calls = append-nil v.calls i; front = append-nil (v.front ++ b.between) i; dues = dues });
         owed = owed;
         seen = kept;
         quiet = b.quiet;
@@ -67,12 +68,9 @@ module _ (v w : WideView) (acts : List Act) (own : Own) (a : Advances v w acts o
       }
 
   -- that has the one event of a call
-  pub ends_step : (act : Act) (more : List ℕ) → acts ≡ act ∷ [] → own.owed ≡ v.own.owed ++ more → own.pending ≡ None
-      → ((c n : ℕ) → HasSeen v.own.seen c n → HasSeen own.seen c n) → Ends v w act more
-  ends_step act more one owed idle kept = record { own = own; advances = acts_are (act ∷ []) one; owed = owed; idle = idle; seen = kept }
-
-calls_both : (f g : List Event) (n : ℕ) → calls caller_of f n ≡ [] → calls caller_of g n ≡ [] → calls caller_of (f ++ g) n ≡ []
-calls_both f g n p q = calls-append f g n ∙ ap (λ (l : List Event). l ++ calls caller_of g n) p ∙ q
+  pub ends_step : (act : Act) (more : List ℕ) → acts ≡ act ∷ [] → dues.owed ≡ v.dues.owed ++ more → dues.pending ≡ None
+      → ((c n : ℕ) → HasSeen v.dues.seen c n → HasSeen dues.seen c n) → Ends v w act more
+  ends_step act more one owed idle kept = record { dues = dues; advances = acts_are (act ∷ []) one; owed = owed; idle = idle; seen = kept }
 
 -- what is known after steps without an event
 module _ (u v : WideView) (s : Looked u v) where
@@ -85,25 +83,25 @@ module _ (u v : WideView) (s : Looked u v) where
   pub world_looked : v.world ≡ u.world
   world_looked = ap (λ (z : WideView). z.world) s.is
 
-  own_looked : v.own ≡ s.own
-  own_looked = ap (λ (z : WideView). z.own) s.is
+  own_looked : v.dues ≡ s.dues
+  own_looked = ap (λ (z : WideView). z.dues) s.is
 
-  owed_looked : v.own.owed ≡ u.own.owed
-  owed_looked = ap (λ (o : Own). o.owed) own_looked ∙ s.owed
+  owed_looked : v.dues.owed ≡ u.dues.owed
+  owed_looked = ap (λ (o : WideDues). o.owed) own_looked ∙ s.owed
 
   pub looked_stays : Stays (state_of u.front) (state_of v.front)
   looked_stays = stays_prefix u.front v.front (s.between, ap (λ (z : WideView). z.front) s.is)
 
-  pub seen_looked : (c n : ℕ) → HasSeen u.own.seen c n → HasSeen v.own.seen c n
-  seen_looked c n has = subst (λ (o : Own). HasSeen o.seen c n) (sym own_looked) (s.seen c n has)
+  pub seen_looked : (c n : ℕ) → HasSeen u.dues.seen c n → HasSeen v.dues.seen c n
+  seen_looked c n has = subst (λ (o : WideDues). HasSeen o.seen c n) (sym own_looked) (s.seen c n has)
 
-  pub passed_looked : (x : WideCode) (c : ℕ) → IsPassed u.world (state_of u.front) u.own.seen x c → IsPassed u.world (state_of v.front) v.own.seen x c
+  pub passed_looked : (x : WideCode) (c : ℕ) → IsPassed u.world (state_of u.front) u.dues.seen x c → IsPassed u.world (state_of v.front) v.dues.seen x c
   passed_looked x c (inl (n, has, other)) = inl (n, seen_looked c n has, other)
   passed_looked x c (inr (y, there, other)) = inr (y, looked_stays.vertices c y there, other)
 
-  pub searched_looked : (x : WideCode) (c : ℕ) (q : IsSearched u.world (state_of u.front) u.own.seen x c) → (r : IsSearched v.world (state_of v.front) v.own.seen x c) × (r.steps ≡ q.steps)
+  pub searched_looked : (x : WideCode) (c : ℕ) (q : IsSearched u.world (state_of u.front) u.dues.seen x c) → (r : IsSearched v.world (state_of v.front) v.dues.seen x c) × (r.steps ≡ q.steps)
   searched_looked x c q =
-      subst (λ (w : WideWorldType). (r : IsSearched w (state_of v.front) v.own.seen x c) × (r.steps ≡ q.steps)) (sym world_looked)
+      subst (λ (w : WideWorldType). (r : IsSearched w (state_of v.front) v.dues.seen x c) × (r.steps ≡ q.steps)) (sym world_looked)
       (record { steps = q.steps; short = q.short; at = q.at; before = λ k less. passed_looked x (cell_on u.world x k) (q.before k less) }, refl)
 
   pub origin_looked : (x : WideCode) (o : Origin) → IsOrigin (flat u.world) (state_of u.front) (number u.world.space x) o → IsOrigin (flat v.world) (state_of v.front) (number v.world.space x) o
@@ -112,10 +110,10 @@ module _ (u v : WideView) (s : Looked u v) where
       (origin_stays (flat u.world) (state_of u.front) (state_of v.front) (number u.world.space x) o looked_stays cause)
 
   -- a further step, and further steps
-  pub then_step : (w : WideView) (acts : List Act) (own : Own) → Advances v w acts own → Advances u w acts own
-  then_step w acts own a = record {
+  pub then_step : (w : WideView) (acts : List Act) (dues : WideDues) → Advances v w acts dues → Advances u w acts dues
+  then_step w acts dues a = record {
     between = s.between ++ a.between;
-    is = a.is ∙ ap (λ (z : WideView). advanced z (z.front ++ a.between) acts own) s.is ∙ ap (λ (h : List Event). advanced u h acts own) (append_assoc u.front s.between a.between);
+    is = a.is ∙ ap (λ (z : WideView). advanced z (z.front ++ a.between) acts dues) s.is ∙ ap (λ (h : List Event). advanced u h acts dues) (append_assoc u.front s.between a.between);
     quiet = calls_both s.between a.between u.number s.quiet (subst (λ (n : ℕ). calls caller_of a.between n ≡ []) number_same a.quiet);
     alone = λ all. let before = s.alone all in let here = a.alone (stake_same ∙ all) in ap (λ (l : List Event). l ++ a.between) before ∙ here;
     known = a.known;
@@ -125,8 +123,8 @@ module _ (u v : WideView) (s : Looked u v) where
   pub looked_then : (w : WideView) → Looked v w → Looked u w
   looked_then w t = record {
     between = s.between ++ t.between;
-    own = t.own;
-    is = t.is ∙ ap (λ (z : WideView). record z { front = z.front ++ t.between; own = t.own }) s.is ∙ ap (λ (h : List Event). record u { front = h; own = t.own }) (append_assoc u.front s.between t.between);
+    dues = t.dues;
+    is = t.is ∙ ap (λ (z : WideView). record z { front = z.front ++ t.between; dues = t.dues }) s.is ∙ ap (λ (h : List Event). record u { front = h; dues = t.dues }) (append_assoc u.front s.between t.between);
     owed = t.owed ∙ owed_looked;
     seen = λ c n has. t.seen c n (seen_looked c n has);
     quiet = calls_both s.between t.between u.number s.quiet (subst (λ (n : ℕ). calls caller_of t.between n ≡ []) number_same t.quiet);
@@ -135,8 +133,8 @@ module _ (u v : WideView) (s : Looked u v) where
 
   pub ends_then : (w : WideView) (act : Act) (more : List ℕ) → Ends v w act more → Ends u w act more
   ends_then w act more e = record {
-    own = e.own;
-    advances = then_step w (act ∷ []) e.own e.advances;
+    dues = e.dues;
+    advances = then_step w (act ∷ []) e.dues e.advances;
     owed = e.owed ∙ ap (λ (l : List ℕ). l ++ more) owed_looked;
     idle = e.idle;
     seen = λ c n has. e.seen c n (seen_looked c n has);

@@ -1,10 +1,11 @@
 -- A search along the path of a pair, cell by cell.
-use Rattle.std.proofs.Common.{◌≡◌, ◌≢◌, refl, sym, ap, subst, ◌∙◌, ℕ, ◌+◌, ◌-◌, ◌%◌, ◌*◌, ◌/◌, ◌^◌, ◌<◌, ◌⊎◌, ◌==◌, inl, inr, Bool, true, false, eqb-true, eq-eqb, add-zero, None, arith}
+use Rattle.std.proofs.Common.{◌≡◌, ◌≢◌, refl, sym, ap, subst, ◌∙◌, ℕ, ◌+◌, ◌-◌, ◌%◌, ◌<◌, ◌==◌, inl, inr, Bool, true, false, eqb-true, eq-eqb, None, arith}
 use Rattle.std.proofs.Math.Nat.{mod-add-mod}
+use Rattle.list_facts.proofs.Numbers.{below_or_last}
 use Rattle.graph_history.specs.declared.event.Origin.{Origin}
 use Rattle.graph_history.specs.History.{state_of, IsOrigin}
 use Rattle.graph_rule.specs.Layout.{home}
-use Rattle.graph_rule.proofs.Paths.{one_place}
+use Rattle.graph_rule.proofs.Paths.{home_first, one_place}
 use Rattle.wide_words.specs.declared.spaces.WideCode.{WideCode}
 use Rattle.wide_words.specs.WideSpaces.{IsWide, number}
 use Rattle.wide_words.specs.WideHistory.{WideWorldType, flat}
@@ -13,26 +14,16 @@ use Rattle.wide_rule.specs.Values.{WideGraphValue, WideSeatValue, Belongs}
 use Rattle.wide_graph.specs.Search.{Passing, Probing, Searching}
 use Rattle.wide_graph.proofs.Looking.{looked_none, world_looked, searched_looked, origin_looked, looked_then}
 
-below_split : (j m : ℕ) → j < m + 1 → (j < m) ⊎ (j ≡ m)
-below_split j m below = grind arith
-
 same_test : (p q : Bool) → (p ≡ true → q ≡ true) → (q ≡ true → p ≡ true) → p ≡ q
 same_test true q f g = sym (f refl)
 same_test false true f g = g refl
 same_test false false f g = refl
 
 -- where it begins
-home_first : (cells x : ℕ) → 0 < cells → home cells x ≡ (home cells x + 0) % cells
-unfolding home
-home_first cells x some_cell = sym (twice_in (((x * 11400714819323198485) % 2 ^ 64) / 2 ^ 32) cells)
-  where
-    twice_in : (a n : ℕ) → (a % n + 0) % n ≡ a % n
-    twice_in a n = mod-add-mod a n 0 ∙ ap (λ (m : ℕ). m % n) (add-zero a)
-
 some_cell : (w : WideWorldType) → 0 < cell_count w
 some_cell w = omega arith
 
-pub begins : (first : WideSeatValue) (g : WideGraphValue) (x : WideCode) (cells start : ℕ) → Belongs first g → cells ≡ cell_count g.world → start ≡ home cells (mixed x) → first.view.own.pending ≡ None → Searching first first x 0 start
+pub begins : (first : WideSeatValue) (g : WideGraphValue) (x : WideCode) (cells start : ℕ) → Belongs first g → cells ≡ cell_count g.world → start ≡ home cells (mixed x) → first.view.dues.pending ≡ None → Searching first first x 0 start
 begins first g x cells start b count at idle = record {
   table = refl;
   looked = looked_none first.view;
@@ -113,7 +104,7 @@ module _ (first now : WideSeatValue) (x : WideCode) (k c : ℕ) (s : Searching f
     };
   }
     where
-      both : (r : IsSearched next.view.world (state_of next.view.front) next.view.own.seen x c) × (r.steps ≡ s.at.searched.steps)
+      both : (r : IsSearched next.view.world (state_of next.view.front) next.view.dues.seen x c) × (r.steps ≡ s.at.searched.steps)
       both = searched_looked now.view next.view p.looked x c s.at.searched
 
       still_step : both.0.steps ≡ k
@@ -137,9 +128,9 @@ module _ (first now : WideSeatValue) (x : WideCode) (k c : ℕ) (s : Searching f
           sum : (a d : ℕ) → a + d + 1 ≡ a + (d + 1)
           sum a d = omega arith
 
-      passed : (j : ℕ) → j < both.0.steps + 1 → IsPassed next.view.world (state_of next.view.front) next.view.own.seen x (cell_on next.view.world x j)
+      passed : (j : ℕ) → j < both.0.steps + 1 → IsPassed next.view.world (state_of next.view.front) next.view.dues.seen x (cell_on next.view.world x j)
       passed j below =
-          elim (below_split j both.0.steps below) [
+          elim (below_or_last j both.0.steps below) [
             | inl before ↦ both.0.before j before
-            | inr same_step ↦ subst (λ (d : ℕ). IsPassed next.view.world (state_of next.view.front) next.view.own.seen x d) (both.0.at ∙ ap (cell_on next.view.world x) (sym same_step)) p.passed
+            | inr same_step ↦ subst (λ (d : ℕ). IsPassed next.view.world (state_of next.view.front) next.view.dues.seen x d) (both.0.at ∙ ap (cell_on next.view.world x) (sym same_step)) p.passed
           ]

@@ -7,7 +7,7 @@ use Rattle.graph_history.specs.declared.answer.Added.{Added}
 use Rattle.graph_history.specs.declared.answer.Added.TheVariants.{New, Old, Full}
 use Rattle.graph_history.specs.History.{State, HasVertex, IsNew}
 use Rattle.wide_words.specs.WideHistory.{WideWorldType}
-use Rattle.wide_rule.specs.declared.own.Own.{Own}
+use Rattle.wide_rule.specs.declared.dues.WideDues.{WideDues}
 use Rattle.wide_rule.specs.Layout.{HasSeen}
 use Rattle.wide_rule.specs.Rule.{WideView}
 use Rattle.wide_rule.specs.Told.{Advances}
@@ -15,13 +15,13 @@ use Rattle.wide_rule.specs.Told.{Advances}
 -- the call made this one event, owes these cells besides those before, and has no cell pending. What its seat had seen it has
 -- seen, and first words that it met on its way may be among that
 pub record Ends (v w : WideView) (act : Act) (more : List ℕ) : Type 0 where
-  pub own : Own
-  pub advances : Advances v w (act ∷ []) own
-  pub owed : own.owed ≡ v.own.owed ++ more
-  pub idle : own.pending ≡ None
-  pub seen : (c n : ℕ) → HasSeen v.own.seen c n → HasSeen own.seen c n
+  pub dues : WideDues
+  pub advances : Advances v w (act ∷ []) dues
+  pub owed : dues.owed ≡ v.dues.owed ++ more
+  pub idle : dues.pending ≡ None
+  pub seen : (c n : ℕ) → HasSeen v.dues.seen c n → HasSeen dues.seen c n
 
--- the one event of an entry of the pair with the number x: it was put in, it was there, or there was no room. A cell that it
+-- the one event of an entry of the pair with the number x: it was put in, it was there, or no cell was left. A cell that it
 -- is new in is owed
 abbrev pub entry_act : ℕ → Origin → Added → Act
 entry_act x o (New c) = AddedAct c x o

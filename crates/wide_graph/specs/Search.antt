@@ -3,13 +3,13 @@ use Rattle.std.specs.Prelude.{ℕ, ◌<◌, ◌≡◌, Bool, false, List, [], �
 use Rattle.graph_history.specs.declared.event.Event.{Event}
 use Rattle.graph_history.specs.declared.event.Origin.{Origin}
 use Rattle.graph_history.specs.declared.event.Act.TheVariants.{Added as AddedAct, Met, Missed, Spent}
-use Rattle.graph_history.specs.History.{state_of}
+use Rattle.graph_history.specs.History.{state_of, caller_of}
 use Rattle.shared_seats.specs.Seats.{calls}
 use Rattle.wide_words.specs.declared.spaces.WideCode.{WideCode}
 use Rattle.wide_words.specs.WideSpaces.{IsWide, number}
-use Rattle.wide_rule.specs.declared.own.Own.{Own}
+use Rattle.wide_rule.specs.declared.dues.WideDues.{WideDues}
 use Rattle.wide_rule.specs.Layout.{cell_count, is_last, HasSeen, IsPassed, IsSearched}
-use Rattle.wide_rule.specs.Rule.{WideView, caller_of, whole}
+use Rattle.wide_rule.specs.Rule.{WideView, whole}
 use Rattle.wide_rule.specs.Values.{WideGraphValue, WideSeatValue, Belongs}
 use Rattle.wide_graph.specs.declared.entries.Tried.{Tried}
 use Rattle.wide_graph.specs.declared.entries.Tried.TheVariants.{Added, Met as TriedMet, Spent as TriedSpent, Passed}
@@ -20,37 +20,37 @@ use Rattle.wide_graph.specs.Entries.{Ends}
 -- steps without an event: the front took in what others did, no more is owed, and what was seen stays
 pub record Looked (v w : WideView) : Type 0 where
   pub between : List Event
-  pub own : Own
-  pub is : w ≡ record v { front = v.front ++ between; own = own }
-  pub owed : own.owed ≡ v.own.owed
-  pub seen : (c n : ℕ) → HasSeen v.own.seen c n → HasSeen own.seen c n
+  pub dues : WideDues
+  pub is : w ≡ record v { front = v.front ++ between; dues = dues }
+  pub owed : dues.owed ≡ v.dues.owed
+  pub seen : (c n : ℕ) → HasSeen v.dues.seen c n → HasSeen dues.seen c n
   pub quiet : calls caller_of between v.number ≡ []
   pub alone : v.stake ≡ whole → between ≡ []
 
 -- the cell was passed, with no event and with no cell pending
 pub record Passing (v w : WideView) (x : WideCode) (c : ℕ) : Type 0 where
   pub looked : Looked v w
-  pub idle : w.own.pending ≡ None
-  pub passed : IsPassed w.world (state_of w.front) w.own.seen x c
+  pub idle : w.dues.pending ≡ None
+  pub passed : IsPassed w.world (state_of w.front) w.dues.seen x c
 
 -- a seat of the graph may look for the pair at the cell, up to which it is searched
 pub record Probing (g : WideGraphValue) (s : WideSeatValue) (x : WideCode) (c : ℕ) (last : Bool) : Type 0 where
   pub belongs : Belongs s g
   pub cell : c < cell_count g.world
   pub code : IsWide s.view.world.space x
-  pub searched : IsSearched s.view.world (state_of s.view.front) s.view.own.seen x c
+  pub searched : IsSearched s.view.world (state_of s.view.front) s.view.dues.seen x c
   pub ends : last ≡ is_last s.view.world x c
 
 -- the cells of the path before the k-th are passed, and the cell is the k-th
 pub record IsAt (w : WideView) (x : WideCode) (k c : ℕ) : Type 0 where
-  pub searched : IsSearched w.world (state_of w.front) w.own.seen x c
+  pub searched : IsSearched w.world (state_of w.front) w.dues.seen x c
   pub step : searched.steps ≡ k
 
 -- the search of one call so far: it is at the k-th cell, and there was no event yet
 pub record Searching (first now : WideSeatValue) (x : WideCode) (k c : ℕ) : Type 0 where
   pub table : now.table ≡ first.table
   pub looked : Looked first.view now.view
-  pub idle : now.view.own.pending ≡ None
+  pub idle : now.view.dues.pending ≡ None
   pub at : IsAt now.view x k c
 
 -- what trying a cell tells, and looking at it

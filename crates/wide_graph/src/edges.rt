@@ -20,9 +20,9 @@ pub fn look(graph: &WideGraph, seat: &mut WideSeat, cell: u32, arrow: Arrow) -> 
     requires belongs { Belongs seat.old graph.now }
     requires there { HasSome (state_of seat.old.view.front) cell }
     requires arrow { IsArrow (flat seat.old.view.world).space arrow }
-    requires idle { seat.old.view.own.pending ≡ None }
+    requires idle { seat.old.view.dues.pending ≡ None }
     ensures table { seat.new.table ≡ seat.old.table }
-    ensures view { Advances seat.old.view seat.new.view (look_acts cell arrow result) seat.old.view.own }
+    ensures view { Advances seat.old.view seat.new.view (look_acts cell arrow result) seat.old.view.dues }
     ensures exact { seen result ≡ target_in seat.new.view cell arrow }
 {
     let _cells = graph.world().capacity();
@@ -44,9 +44,9 @@ pub fn set(graph: &WideGraph, seat: &mut WideSeat, cell: u32, arrow: Arrow, to: 
     requires belongs { Belongs seat.old graph.now }
     requires arrow { IsArrow (flat seat.old.view.world).space arrow }
     requires target { LeadsTo (flat seat.old.view.world) (state_of seat.old.view.front) cell arrow to }
-    requires idle { seat.old.view.own.pending ≡ None }
+    requires idle { seat.old.view.dues.pending ≡ None }
     ensures table { seat.new.table ≡ seat.old.table }
-    ensures view { Advances seat.old.view seat.new.view (drawn_acts cell arrow to result) seat.old.view.own }
+    ensures view { Advances seat.old.view seat.new.view (drawn_acts cell arrow to result) seat.old.view.dues }
     ensures drawn { HasArrow (state_of seat.new.view.front) cell arrow to }
 {
     claim_edge(graph, seat, cell, arrow, to) == 0

@@ -11,7 +11,9 @@ ghost use Rattle.wide_graph.specs.Search.{Probing, Tries};
 
 use crate::path::{cells, following, home};
 use graph_history::{Added, Origin};
-use wide_rule::{WideGraph, WideSeat, claim_first, claim_second, room_first, room_second};
+use wide_rule::{
+    WideGraph, WideSeat, claim_first, claim_second, seek_room_first, seek_room_second,
+};
 use wide_words::WideCode;
 
 /// What became of a pair at one cell of its path.
@@ -34,7 +36,7 @@ pub fn add(graph: &WideGraph, seat: &mut WideSeat, code: WideCode, origin: Origi
     requires belongs { Belongs seat.old graph.now }
     requires code { IsWide seat.old.view.world.space code }
     requires origin { IsOrigin (flat seat.old.view.world) (state_of seat.old.view.front) (number seat.old.view.world.space code) origin }
-    requires idle { seat.old.view.own.pending ≡ None }
+    requires idle { seat.old.view.dues.pending ≡ None }
     ensures table { seat.new.table ≡ seat.old.table }
     ensures entry { Enters seat.old.view seat.new.view (number seat.old.view.world.space code) origin result }
     ensures exact { IsAddedIn graph.now.world (state_of seat.new.view.front) (number graph.now.world.space code) result }
@@ -63,11 +65,11 @@ fn try_cell(
 ) -> Tried
     requires probing { Probing graph.now seat.old code cell last }
     requires origin { IsOrigin (flat seat.old.view.world) (state_of seat.old.view.front) (number seat.old.view.world.space code) origin }
-    requires idle { seat.old.view.own.pending ≡ None }
+    requires idle { seat.old.view.dues.pending ≡ None }
     ensures table { seat.new.table ≡ seat.old.table }
     ensures told { Tries seat.old.view seat.new.view cell code origin last result }
 {
-    let word = room_first(graph, seat, cell, code, origin);
+    let word = seek_room_first(graph, seat, cell, code, origin);
     if word == 0 {
         return take_cell(graph, seat, cell, code, origin, last);
     }
@@ -88,7 +90,7 @@ fn take_cell(
 ) -> Tried
     requires probing { Probing graph.now seat.old code cell last }
     requires origin { IsOrigin (flat seat.old.view.world) (state_of seat.old.view.front) (number seat.old.view.world.space code) origin }
-    requires idle { seat.old.view.own.pending ≡ None }
+    requires idle { seat.old.view.dues.pending ≡ None }
     ensures table { seat.new.table ≡ seat.old.table }
     ensures told { Tries seat.old.view seat.new.view cell code origin last result }
 {
@@ -100,7 +102,7 @@ fn take_cell(
         return try_half(graph, seat, cell, code, origin, last);
     }
     if last {
-        let _word = room_first(graph, seat, cell, code, origin);
+        let _word = seek_room_first(graph, seat, cell, code, origin);
         return Tried::Spent;
     }
     Tried::Passed
@@ -117,12 +119,12 @@ fn try_half(
 ) -> Tried
     requires probing { Probing graph.now seat.old code cell last }
     requires origin { IsOrigin (flat seat.old.view.world) (state_of seat.old.view.front) (number seat.old.view.world.space code) origin }
-    requires half { HasSeen seat.old.view.own.seen cell (code.high + 1) }
-    requires idle { seat.old.view.own.pending ≡ None }
+    requires half { HasSeen seat.old.view.dues.seen cell (code.high + 1) }
+    requires idle { seat.old.view.dues.pending ≡ None }
     ensures table { seat.new.table ≡ seat.old.table }
     ensures told { Tries seat.old.view seat.new.view cell code origin last result }
 {
-    let word = room_second(graph, seat, cell, code, origin);
+    let word = seek_room_second(graph, seat, cell, code, origin);
     if word == 0 {
         return finish_half(graph, seat, cell, code, origin, last);
     }
@@ -143,8 +145,8 @@ fn finish_half(
 ) -> Tried
     requires probing { Probing graph.now seat.old code cell last }
     requires origin { IsOrigin (flat seat.old.view.world) (state_of seat.old.view.front) (number seat.old.view.world.space code) origin }
-    requires half { HasSeen seat.old.view.own.seen cell (code.high + 1) }
-    requires idle { unless cell seat.old.view.own.pending ≡ None }
+    requires half { HasSeen seat.old.view.dues.seen cell (code.high + 1) }
+    requires idle { unless cell seat.old.view.dues.pending ≡ None }
     ensures table { seat.new.table ≡ seat.old.table }
     ensures told { Tries seat.old.view seat.new.view cell code origin last result }
 {
@@ -156,7 +158,7 @@ fn finish_half(
         return Tried::Met;
     }
     if last {
-        let _word = room_second(graph, seat, cell, code, origin);
+        let _word = seek_room_second(graph, seat, cell, code, origin);
         return Tried::Spent;
     }
     Tried::Passed

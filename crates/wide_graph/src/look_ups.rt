@@ -27,7 +27,7 @@ pub(crate) enum Sought {
 pub fn find(graph: &WideGraph, seat: &mut WideSeat, code: WideCode) -> Option<u32>
     requires belongs { Belongs seat.old graph.now }
     requires code { IsWide seat.old.view.world.space code }
-    requires idle { seat.old.view.own.pending ≡ None }
+    requires idle { seat.old.view.dues.pending ≡ None }
     ensures table { seat.new.table ≡ seat.old.table }
     ensures found { Finds seat.old.view seat.new.view (number seat.old.view.world.space code) result }
     ensures exact { MatchOption result (IsNew (state_of seat.new.view.front) (number graph.now.world.space code)) (λ c. HasVertex (state_of seat.new.view.front) c (number graph.now.world.space code)) }
@@ -53,7 +53,7 @@ fn seek_cell(
     last: bool,
 ) -> Sought
     requires probing { Probing graph.now seat.old code cell last }
-    requires idle { seat.old.view.own.pending ≡ None }
+    requires idle { seat.old.view.dues.pending ≡ None }
     ensures table { seat.new.table ≡ seat.old.table }
     ensures told { Seeks seat.old.view seat.new.view cell code last result }
 {
@@ -76,8 +76,8 @@ fn seek_half(
     last: bool,
 ) -> Sought
     requires probing { Probing graph.now seat.old code cell last }
-    requires half { HasSeen seat.old.view.own.seen cell (code.high + 1) }
-    requires idle { seat.old.view.own.pending ≡ None }
+    requires half { HasSeen seat.old.view.dues.seen cell (code.high + 1) }
+    requires idle { seat.old.view.dues.pending ≡ None }
     ensures table { seat.new.table ≡ seat.old.table }
     ensures told { Seeks seat.old.view seat.new.view cell code last result }
 {

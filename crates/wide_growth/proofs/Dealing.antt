@@ -5,10 +5,10 @@ use Rattle.std.proofs.lemmas.List.{append-nil, length_push, length-append, take-
 use Rattle.std.proofs.lemmas.List.Concat.{flat_map-append}
 use Rattle.std.proofs.lemmas.List.Elements.{All-nil, All-push, All-take, All-drop, All-head, All-tail, All-weaker}
 use Rattle.graph_history.specs.declared.event.Event.{Event}
-use Rattle.graph_rule.proofs.Views.{prefix_self}
+use Rattle.shared_seats.proofs.Fronts.{prefix_self}
 use Rattle.wide_words.specs.WideHistory.{WideWorldType}
 use Rattle.shared_seats.specs.Seats.{IsPrefix}
-use Rattle.wide_rule.specs.declared.own.Own.{Own}
+use Rattle.wide_rule.specs.declared.dues.WideDues.{WideDues}
 use Rattle.wide_rule.specs.Rule.{WideView, IsKnown}
 use Rattle.wide_rule.specs.Parting.{nothing, cut_left, cut_right}
 use Rattle.wide_rule.specs.Values.{WideGraphValue, WideSeatValue, Belongs}
@@ -63,7 +63,7 @@ module _ (g : WideGraphValue) (first mid now : WideSeatValue) (waiting rest : Li
     can = record {
       ready = record {
         belongs = record { table = below ∙ d.table ∙ ready.belongs.table; world = ap (λ (v : WideView). v.world) child ∙ ap (λ (v : WideView). v.world) d.view ∙ ready.belongs.world };
-        idle = ap (λ (v : WideView). v.own.pending) child;
+        idle = ap (λ (v : WideView). v.dues.pending) child;
       };
       vertices = subst (λ (l : List OpenVertex). All (IsVertex g.world j.seat.view.front) l) (sym part)
           (subst (λ (f : List Event). All (IsVertex g.world f) (take n rest)) (sym front) (All-take (IsVertex g.world first.view.front) n rest d.vertices));
@@ -71,7 +71,7 @@ module _ (g : WideGraphValue) (first mid now : WideSeatValue) (waiting rest : Li
     };
     front_is = front;
     stake = ap (λ (v : WideView). v.stake) child;
-    own = ap (λ (v : WideView). v.own) child;
+    dues = ap (λ (v : WideView). v.dues) child;
   }
     where
       few : length (take n rest) ≤ most_open
@@ -126,7 +126,7 @@ back_of g front j s job done = record {
   stake = goes.stake ∙ job.stake;
   known = goes.known;
   begins = subst (λ (f : List Event). IsPrefix f s.seat.view.front) job.front_is goes.front;
-  owed = goes.owed ∙ ap (λ (o : Own). o.owed ++ cells_in goes.added) job.own ∙ ap cells_in (sym goes.list);
+  owed = goes.owed ∙ ap (λ (o : WideDues). o.owed ++ cells_in goes.added) job.dues ∙ ap cells_in (sym goes.list);
   vertices = subst (λ (l : List OpenVertex). All (IsVertex g.world s.seat.view.front) l) (sym goes.list)
       (subst (λ (w : WideWorldType). All (IsVertex w s.seat.view.front) goes.added) job.can.ready.belongs.world goes.vertices);
   drawn = subst (λ (w : WideWorldType). AreWhole w s.seat.view.front j.waiting.items) job.can.ready.belongs.world done.drawn;

@@ -24,7 +24,7 @@ module _ (g : WideGraphValue) (a b : WideSeatValue) (ready : IsReady g a) (table
   pub entered_new : (c : ℕ) (before after : List OpenVertex) → IsWide g.world.space code → HasVertex (state_of b.view.front) c (number g.world.space code)
       → Ends a.view b.view (AddedAct c (number a.view.world.space code) o) (c ∷ []) → after ≡ before ++ record { cell = c; code = code } ∷ [] → GoesOn a b before after
   entered_new c before after word there e list =
-      goes_by a b (AddedAct c (number a.view.world.space code) o ∷ []) e.own (record { cell = c; code = code } ∷ []) before after list table e.advances e.owed e.idle
+      goes_by a b (AddedAct c (number a.view.world.space code) o ∷ []) e.dues (record { cell = c; code = code } ∷ []) before after list table e.advances e.owed e.idle
       (All-cons (IsVertex a.view.world b.view.front) (record { cell = c; code = code }) []
       (record { word = subst (λ (w : WideWorldType). IsWide w.space code) (sym ready.belongs.world) word; there = subst (λ (w : WideWorldType). HasVertex (state_of b.view.front) c (number w.space code)) (sym ready.belongs.world) there })
       (All-nil (IsVertex a.view.world b.view.front)))
@@ -32,7 +32,7 @@ module _ (g : WideGraphValue) (a b : WideSeatValue) (ready : IsReady g a) (table
   -- it was there
   pub entered_old : (c : ℕ) (list : List OpenVertex) → Ends a.view b.view (Met c (number a.view.world.space code)) [] → GoesOn a b list list
   entered_old c list e =
-      goes_by a b (Met c (number a.view.world.space code) ∷ []) e.own [] list list (sym (append-nil list)) table e.advances e.owed e.idle (All-nil (IsVertex a.view.world b.view.front))
+      goes_by a b (Met c (number a.view.world.space code) ∷ []) e.dues [] list list (sym (append-nil list)) table e.advances e.owed e.idle (All-nil (IsVertex a.view.world b.view.front))
 
   -- there was no cell for it
   pub entered_full : Ends a.view b.view (Spent (number a.view.world.space code)) [] → Outnumber (counted g.world)
@@ -45,16 +45,3 @@ module _ (g : WideGraphValue) (a b : WideSeatValue) (ready : IsReady g a) (table
       event : Contains b.view.front (record { caller = a.view.number; act = Spent (number a.view.world.space code) })
       event = subst (λ (h : List Event). Contains h (record { caller = a.view.number; act = Spent (number a.view.world.space code) })) (sym (ap (λ (v : WideView). v.front) e.advances.is))
           (Contains-push (a.view.front ++ e.advances.between) (record { caller = a.view.number; act = Spent (number a.view.world.space code) }))
-
--- what a list has, a mapped list has mapped
-Contains-map : {X : Type 0} (f : X → ℕ) (xs : List X) (k : ℕ) (d : X) → k < length xs → Contains (map f xs) (f (get_or xs k d))
-Contains-map f [] k d below = absurd (omega arith)
-Contains-map f (x ∷ xs) zero d below = (0, omega arith, refl)
-Contains-map f (x ∷ xs) (suc k) d below = let at = Contains-map f xs k d (omega arith) in (suc at.0, (let h = at.1 in omega arith), at.2)
-
--- a root of the world
-pub root_origin : (w : WideWorldType) (s : State) (roots : List WideCode) (k : ℕ) (d : WideCode) → roots ≡ w.roots → k < length roots → IsOrigin (flat w) s (number w.space (get_or roots k d)) Root
-root_origin w s roots k d are below = subst (λ (l : List WideCode). Contains (map (number w.space) l) (number w.space (get_or roots k d))) are (Contains-map (number w.space) roots k d below)
-
-pub root_word : (w : WideWorldType) (roots : List WideCode) (k : ℕ) (d : WideCode) → IsWideWorld w → roots ≡ w.roots → k < length roots → IsWide w.space (get_or roots k d)
-root_word w roots k d world are below = All-get_or (IsWide w.space) roots k d below (subst (λ (l : List WideCode). All (IsWide w.space) l) (sym are) world.words)

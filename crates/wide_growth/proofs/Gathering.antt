@@ -6,14 +6,14 @@ use Rattle.std.proofs.lemmas.List.Sums.{sum_by-append, sum_by-le}
 use Rattle.std.proofs.lemmas.List.Elements.{All-nil, All-append, All-from_get_or}
 use Rattle.graph_history.specs.declared.event.Event.{Event}
 use Rattle.graph_history.specs.History.{state_of, IsWhole}
-use Rattle.graph_rule.proofs.Views.{prefix_self, prefix_on}
+use Rattle.shared_seats.proofs.Fronts.{prefix_self, prefix_on}
 use Rattle.shared_seats.specs.Seats.{IsPrefix}
 use Rattle.wide_words.specs.WideSpaces.{WideSpaceType}
 use Rattle.wide_words.specs.WideHistory.{WideWorldType, IsWideWorld, flat}
-use Rattle.wide_rule.specs.declared.own.Own.{Own}
+use Rattle.wide_rule.specs.declared.dues.WideDues.{WideDues}
 use Rattle.wide_rule.specs.Rule.{WideView, IsKnown}
 use Rattle.wide_rule.specs.Told.{Advances}
-use Rattle.wide_rule.specs.Parting.{both_own, joined}
+use Rattle.wide_rule.specs.Parting.{both_dues, joined}
 use Rattle.wide_rule.specs.Values.{WideGraphValue, WideSeatValue}
 use Rattle.wide_growth.specs.declared.drawing.OpenVertex.{OpenVertex}
 use Rattle.wide_growth.specs.declared.drawing.Stop.{Stop}
@@ -45,7 +45,7 @@ gathering_none g s waiting shares added ready known back none = record {
     left = refl;
     known = known;
     front = prefix_self s.view.front;
-    owed = sym (append-nil s.view.own.owed) ∙ ap (λ (l : List OpenVertex). s.view.own.owed ++ cells_in l) (sym none);
+    owed = sym (append-nil s.view.dues.owed) ∙ ap (λ (l : List OpenVertex). s.view.dues.owed ++ cells_in l) (sym none);
     vertices = subst (λ (l : List OpenVertex). All (IsVertex g.world s.view.front) l) (sym none) (All-nil (IsVertex g.world s.view.front));
     drawn = All-nil (λ (v : OpenVertex). IsWhole (flat g.world) (state_of s.view.front) v.cell);
     counted = refl;
@@ -91,7 +91,7 @@ module _ (g : WideGraphValue) (first mid now : WideSeatValue) (waiting : List Op
       let f = ap length here.2 ∙ length-append here.0 here.1 in
       omega arith
 
-  pub gathering_next : now.table ≡ mid.table → Advances (joined mid.view s.seat.view) now.view [] (both_own mid.view.own s.seat.view.own) → IsPrefix mid.view.front now.view.front
+  pub gathering_next : now.table ≡ mid.table → Advances (joined mid.view s.seat.view) now.view [] (both_dues mid.view.dues s.seat.view.dues) → IsPrefix mid.view.front now.view.front
       → IsPrefix s.seat.view.front now.view.front → IsGathering g first now waiting count later (added ++ s.added.items) (arrows + s.arrows)
   gathering_next table step on from = record {
     taken = p.taken ++ here.0;
@@ -101,14 +101,14 @@ module _ (g : WideGraphValue) (first mid now : WideSeatValue) (waiting : List Op
     gathered = record {
       ready = record {
         belongs = record { table = table ∙ p.gathered.ready.belongs.table; world = ap (λ (v : WideView). v.world) step.is ∙ p.gathered.ready.belongs.world };
-        idle = ap (λ (v : WideView). v.own.pending) step.is ∙ p.gathered.ready.idle;
+        idle = ap (λ (v : WideView). v.dues.pending) step.is ∙ p.gathered.ready.idle;
       };
       stake = stake;
       left = ap (λ (v : WideView). v.left) step.is ∙ p.gathered.left;
       known = step.known;
       front = prefix_on first.view.front mid.view.front now.view.front p.gathered.front on;
-      owed = ap (λ (v : WideView). v.own.owed) step.is ∙ ap₂ (λ (a b : List ℕ). a ++ b) p.gathered.owed here.3.owed ∙ append_assoc first.view.own.owed (cells_in added) (cells_in s.added.items)
-          ∙ ap (λ (l : List ℕ). first.view.own.owed ++ l) (sym (cells_both added s.added.items));
+      owed = ap (λ (v : WideView). v.dues.owed) step.is ∙ ap₂ (λ (a b : List ℕ). a ++ b) p.gathered.owed here.3.owed ∙ append_assoc first.view.dues.owed (cells_in added) (cells_in s.added.items)
+          ∙ ap (λ (l : List ℕ). first.view.dues.owed ++ l) (sym (cells_both added s.added.items));
       vertices = All-append (IsVertex g.world now.view.front) added s.added.items (vertices_later g.world mid.view.front now.view.front added on p.gathered.vertices)
           (vertices_later g.world s.seat.view.front now.view.front s.added.items from here.3.vertices);
       drawn = All-append (λ (v : OpenVertex). IsWhole (flat g.world) (state_of now.view.front) v.cell) p.taken here.0

@@ -6,11 +6,12 @@ use Rattle.graph_history.specs.declared.event.Act.{Act}
 use Rattle.graph_history.specs.declared.event.Event.{Event}
 use Rattle.graph_history.specs.History.{state_of, IsWhole}
 use Rattle.graph_history.specs.Desks.{by}
-use Rattle.graph_rule.proofs.Views.{prefix_self, prefix_on, stays_prefix, whole_stays}
+use Rattle.graph_rule.proofs.Views.{stays_prefix, whole_stays}
+use Rattle.shared_seats.proofs.Fronts.{prefix_self, prefix_on}
 use Rattle.shared_seats.specs.Seats.{IsPrefix}
 use Rattle.wide_words.specs.WideSpaces.{number}
 use Rattle.wide_words.specs.WideHistory.{WideWorldType, flat}
-use Rattle.wide_rule.specs.declared.own.Own.{Own}
+use Rattle.wide_rule.specs.declared.dues.WideDues.{WideDues}
 use Rattle.wide_rule.specs.Rule.{WideView, IsKnown}
 use Rattle.wide_rule.specs.Told.{Advances}
 use Rattle.wide_rule.specs.Values.{WideGraphValue, WideSeatValue}
@@ -35,7 +36,7 @@ pub cells_both : (xs ys : List OpenVertex) → cells_in (xs ++ ys) ≡ cells_in 
 cells_both xs ys = map-append (λ (v : OpenVertex). v.cell) xs ys
 
 -- a seat that did nothing
-pub goes_none : (s : WideSeatValue) (list : List OpenVertex) → IsKnown s.view → s.view.own.pending ≡ None → GoesOn s s list list
+pub goes_none : (s : WideSeatValue) (list : List OpenVertex) → IsKnown s.view → s.view.dues.pending ≡ None → GoesOn s s list list
 goes_none s list known idle = record {
   added = [];
   list = sym (append-nil list);
@@ -45,15 +46,15 @@ goes_none s list known idle = record {
   left = refl;
   known = known;
   front = prefix_self s.view.front;
-  owed = sym (append-nil s.view.own.owed);
+  owed = sym (append-nil s.view.dues.owed);
   idle = idle;
   vertices = All-nil (IsVertex s.view.world s.view.front);
 }
 
 -- a step that put in these vertices
-pub goes_by : (a b : WideSeatValue) (acts : List Act) (own : Own) (more before after : List OpenVertex) → after ≡ before ++ more → b.table ≡ a.table → Advances a.view b.view acts own
-    → own.owed ≡ a.view.own.owed ++ cells_in more → own.pending ≡ None → All (IsVertex a.view.world b.view.front) more → GoesOn a b before after
-goes_by a b acts own more before after list table s owed idle vertices = record {
+pub goes_by : (a b : WideSeatValue) (acts : List Act) (dues : WideDues) (more before after : List OpenVertex) → after ≡ before ++ more → b.table ≡ a.table → Advances a.view b.view acts dues
+    → dues.owed ≡ a.view.dues.owed ++ cells_in more → dues.pending ≡ None → All (IsVertex a.view.world b.view.front) more → GoesOn a b before after
+goes_by a b acts dues more before after list table s owed idle vertices = record {
   added = more;
   list = list;
   table = table;
@@ -62,16 +63,16 @@ goes_by a b acts own more before after list table s owed idle vertices = record 
   left = ap (λ (v : WideView). v.left) s.is;
   known = s.known;
   front = (s.between ++ by a.view.number acts, ap (λ (v : WideView). v.front) s.is ∙ append_assoc a.view.front s.between (by a.view.number acts));
-  owed = ap (λ (v : WideView). v.own.owed) s.is ∙ owed;
-  idle = ap (λ (v : WideView). v.own.pending) s.is ∙ idle;
+  owed = ap (λ (v : WideView). v.dues.owed) s.is ∙ owed;
+  idle = ap (λ (v : WideView). v.dues.pending) s.is ∙ idle;
   vertices = vertices;
 }
 
 -- a step that put nothing in
-pub goes_quiet : (a b : WideSeatValue) (acts : List Act) (own : Own) (list : List OpenVertex) → b.table ≡ a.table → Advances a.view b.view acts own
-    → own.owed ≡ a.view.own.owed → own.pending ≡ None → GoesOn a b list list
-goes_quiet a b acts own list table s owed idle =
-    goes_by a b acts own [] list list (sym (append-nil list)) table s (owed ∙ sym (append-nil a.view.own.owed)) idle (All-nil (IsVertex a.view.world b.view.front))
+pub goes_quiet : (a b : WideSeatValue) (acts : List Act) (dues : WideDues) (list : List OpenVertex) → b.table ≡ a.table → Advances a.view b.view acts dues
+    → dues.owed ≡ a.view.dues.owed → dues.pending ≡ None → GoesOn a b list list
+goes_quiet a b acts dues list table s owed idle =
+    goes_by a b acts dues [] list list (sym (append-nil list)) table s (owed ∙ sym (append-nil a.view.dues.owed)) idle (All-nil (IsVertex a.view.world b.view.front))
 
 -- one after another
 pub goes_then : (a b c : WideSeatValue) (xs ys zs : List OpenVertex) → GoesOn a b xs ys → GoesOn b c ys zs → GoesOn a c xs zs
@@ -84,8 +85,8 @@ goes_then a b c xs ys zs g h = record {
   left = h.left ∙ g.left;
   known = h.known;
   front = prefix_on a.view.front b.view.front c.view.front g.front h.front;
-  owed = h.owed ∙ ap (λ (l : List ℕ). l ++ cells_in h.added) g.owed ∙ append_assoc a.view.own.owed (cells_in g.added) (cells_in h.added)
-      ∙ ap (λ (l : List ℕ). a.view.own.owed ++ l) (sym (cells_both g.added h.added));
+  owed = h.owed ∙ ap (λ (l : List ℕ). l ++ cells_in h.added) g.owed ∙ append_assoc a.view.dues.owed (cells_in g.added) (cells_in h.added)
+      ∙ ap (λ (l : List ℕ). a.view.dues.owed ++ l) (sym (cells_both g.added h.added));
   idle = h.idle;
   vertices = All-append (IsVertex a.view.world c.view.front) g.added h.added (vertices_later a.view.world b.view.front c.view.front g.added h.front g.vertices)
       (subst (λ (w : WideWorldType). All (IsVertex w c.view.front) h.added) g.world h.vertices);

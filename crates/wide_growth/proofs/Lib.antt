@@ -2,7 +2,6 @@ pub mod Going
 pub mod Entering
 pub mod Arrows
 pub mod Counting
-pub mod Outnumbering
 pub mod Closing
 pub mod Drawn
 pub mod Dealing

@@ -7,7 +7,8 @@ use Rattle.tensor_words.specs.Reach.{Outnumber}
 use Rattle.graph_history.specs.declared.event.Event.{Event}
 use Rattle.graph_history.specs.History.{Vertex, state_of, HasCode, IsWhole, IsClosed}
 use Rattle.graph_history.specs.Laws.{HasRoots}
-use Rattle.graph_rule.proofs.Views.{prefix_on, stays_prefix}
+use Rattle.graph_rule.proofs.Views.{stays_prefix}
+use Rattle.shared_seats.proofs.Fronts.{prefix_on}
 use Rattle.shared_seats.specs.Seats.{IsPrefix}
 use Rattle.wide_words.specs.WideSpaces.{number}
 use Rattle.wide_words.specs.WideHistory.{WideWorldType, IsWideWorld, flat, counted, IsWideLegal}
@@ -23,7 +24,7 @@ use Rattle.wide_growth.specs.Grown.{IsGrownTo}
 use Rattle.wide_growth.proofs.Going.{vertices_later, all_whole_later, cells_both}
 use Rattle.wide_growth.proofs.Drawn.{IsIn}
 use Rattle.wide_growth.proofs.Gathering.{few_arrows}
-use Rattle.wide_growth.proofs.Outnumbering.{many_outnumber}
+use Rattle.wide_words.proofs.WideSound.{many_outnumber}
 use Rattle.wide_growth.proofs.Closing.{many_cells, closed_answer}
 
 -- the second of two lists
@@ -39,7 +40,7 @@ round_alone g old now waiting added used arrows ready d = record {
   left = let l = d.goes.left in omega arith;
   known = d.goes.known;
   front = d.goes.front;
-  owed = d.goes.owed ∙ ap (λ (l : List OpenVertex). old.view.own.owed ++ cells_in l) (sym d.goes.list);
+  owed = d.goes.owed ∙ ap (λ (l : List OpenVertex). old.view.dues.owed ++ cells_in l) (sym d.goes.list);
   vertices = subst (λ (l : List OpenVertex). All (IsVertex g.world now.view.front) l) (sym d.goes.list)
       (subst (λ (w : WideWorldType). All (IsVertex w now.view.front) d.goes.added) ready.belongs.world d.goes.vertices);
   drawn = subst (λ (w : WideWorldType). AreWhole w now.view.front waiting) ready.belongs.world d.drawn;
@@ -50,7 +51,7 @@ round_alone g old now waiting added used arrows ready d = record {
 pub dealt_ready : (g : WideGraphValue) (old cut : WideSeatValue) (waiting : List OpenVertex) (growers : ℕ) (jobs : List Job) → IsReady g old → IsDealt g old cut waiting growers jobs → IsReady g cut
 dealt_ready g old cut waiting growers jobs ready d = record {
   belongs = record { table = d.table ∙ ready.belongs.table; world = ap (λ (v : WideView). v.world) d.view ∙ ready.belongs.world };
-  idle = ap (λ (v : WideView). v.own.pending) d.view ∙ ready.idle;
+  idle = ap (λ (v : WideView). v.dues.pending) d.view ∙ ready.idle;
 }
 
 pub dealt_front : (g : WideGraphValue) (old cut : WideSeatValue) (waiting : List OpenVertex) (growers : ℕ) (jobs : List Job) → IsDealt g old cut waiting growers jobs → cut.view.front ≡ old.view.front
@@ -65,7 +66,7 @@ round_shared g old cut now waiting added growers count used arrows jobs few stak
   left = let s : cut.view.left ≡ old.view.left - growers = ap (λ (v : WideView). v.left) d.view in let t = b.left in omega arith;
   known = b.known;
   front = subst (λ (f : List Event). IsPrefix f now.view.front) (ap (λ (v : WideView). v.front) d.view) b.front;
-  owed = b.owed ∙ ap (λ (v : WideView). v.own.owed ++ cells_in added) d.view;
+  owed = b.owed ∙ ap (λ (v : WideView). v.dues.owed ++ cells_in added) d.view;
   vertices = b.vertices;
   drawn = b.drawn;
   counted = b.counted;
@@ -115,7 +116,7 @@ module _ (g : WideGraphValue) (now : WideSeatValue) (waiting : List OpenVertex) 
     whole_list : p.done ++ waiting ≡ p.done
     whole_list = ap (λ (l : List OpenVertex). p.done ++ l) none ∙ append-nil p.done
 
-    pub all_whole : All (IsWhole (flat now.view.world) (state_of now.view.front)) now.view.own.owed
+    pub all_whole : All (IsWhole (flat now.view.world) (state_of now.view.front)) now.view.dues.owed
     all_whole =
         subst (λ (l : List ℕ). All (IsWhole (flat now.view.world) (state_of now.view.front)) l) (sym (p.owed ∙ ap cells_in whole_list))
         (subst (λ (w : WideWorldType). All (IsWhole (flat w) (state_of now.view.front)) (cells_in p.done)) (sym p.ready.belongs.world)
@@ -137,7 +138,7 @@ growing_none g first now waiting ready is goes entered = record {
   stake = goes.stake ∙ ap (λ (v : WideView). v.stake) is;
   known = goes.known;
   left = let a : first.view.left ≡ 2 ^ 32 - 1 = ap (λ (v : WideView). v.left) is in let b = goes.left in omega arith;
-  owed = goes.owed ∙ ap (λ (v : WideView). v.own.owed ++ cells_in goes.added) is ∙ ap cells_in (sym goes.list);
+  owed = goes.owed ∙ ap (λ (v : WideView). v.dues.owed ++ cells_in goes.added) is ∙ ap cells_in (sym goes.list);
   vertices_are = subst (λ (l : List OpenVertex). All (IsVertex g.world now.view.front) l) (sym goes.list)
       (subst (λ (w : WideWorldType). All (IsVertex w now.view.front) goes.added) ready.belongs.world goes.vertices);
   drawn = All-nil (λ (v : OpenVertex). IsWhole (flat g.world) (state_of now.view.front) v.cell);

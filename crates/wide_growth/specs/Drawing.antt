@@ -34,7 +34,7 @@ AreWhole w h vs = All (λ (v : OpenVertex). IsWhole (flat w) (state_of h) v.cell
 -- growth can go on at this seat
 pub record IsReady (g : WideGraphValue) (s : WideSeatValue) : Type 0 where
   pub belongs : Belongs s g
-  pub idle : s.view.own.pending ≡ None
+  pub idle : s.view.dues.pending ≡ None
 
 -- the seat went on: it put in the vertices that the list has more now, and owes their cells too
 pub record GoesOn (old now : WideSeatValue) (before after : List OpenVertex) : Type 0 where
@@ -46,8 +46,8 @@ pub record GoesOn (old now : WideSeatValue) (before after : List OpenVertex) : T
   pub left : now.view.left ≡ old.view.left
   pub known : IsKnown now.view
   pub front : IsPrefix old.view.front now.view.front
-  pub owed : now.view.own.owed ≡ old.view.own.owed ++ cells_in added
-  pub idle : now.view.own.pending ≡ None
+  pub owed : now.view.dues.owed ≡ old.view.dues.owed ++ cells_in added
+  pub idle : now.view.dues.pending ≡ None
   pub vertices : All (IsVertex old.view.world now.view.front) added
 
 -- an arrow of a vertex was drawn, and whether it leads to a word

@@ -36,7 +36,7 @@ pub record IsJob (g : WideGraphValue) (front : List Event) (j : Job) : Type 0 wh
   pub can : CanDraw g j.seat j.waiting.items
   pub front_is : j.seat.view.front ≡ front
   pub stake : j.seat.view.stake ≡ 1
-  pub own : j.seat.view.own ≡ nothing
+  pub dues : j.seat.view.dues ≡ nothing
 
 abbrev pub waiting_of : Job → List OpenVertex
 waiting_of j = j.waiting.items
@@ -61,7 +61,7 @@ pub record IsBack (g : WideGraphValue) (front : List Event) (part : List OpenVer
   pub stake : s.seat.view.stake ≡ 1
   pub known : IsKnown s.seat.view
   pub begins : IsPrefix front s.seat.view.front
-  pub owed : s.seat.view.own.owed ≡ cells_in s.added.items
+  pub owed : s.seat.view.dues.owed ≡ cells_in s.added.items
   pub vertices : All (IsVertex g.world s.seat.view.front) s.added.items
   pub drawn : AreWhole g.world s.seat.view.front part
   pub counted : s.arrows ≡ sum_by (arrows_of g.world.space) part
@@ -81,7 +81,7 @@ pub record IsRound (g : WideGraphValue) (old now : WideSeatValue) (waiting added
   pub left : old.view.left ≤ now.view.left + used
   pub known : IsKnown now.view
   pub front : IsPrefix old.view.front now.view.front
-  pub owed : now.view.own.owed ≡ old.view.own.owed ++ cells_in added
+  pub owed : now.view.dues.owed ≡ old.view.dues.owed ++ cells_in added
   pub vertices : All (IsVertex g.world now.view.front) added
   pub drawn : AreWhole g.world now.view.front waiting
   pub counted : arrows ≡ sum_by (arrows_of g.world.space) waiting
@@ -94,7 +94,7 @@ pub record IsGrowing (g : WideGraphValue) (now : WideSeatValue) (waiting : List 
   pub stake : now.view.stake ≡ whole
   pub known : IsKnown now.view
   pub left : 2 ^ 32 ≤ now.view.left + 16 * vertices + 1
-  pub owed : now.view.own.owed ≡ cells_in (done ++ waiting)
+  pub owed : now.view.dues.owed ≡ cells_in (done ++ waiting)
   pub vertices_are : All (IsVertex g.world now.view.front) (done ++ waiting)
   pub drawn : AreWhole g.world now.view.front done
   pub many : vertices ≡ length done
@@ -110,7 +110,7 @@ pub record IsGathered (g : WideGraphValue) (old now : WideSeatValue) (waiting : 
   pub left : now.view.left ≡ old.view.left
   pub known : IsKnown now.view
   pub front : IsPrefix old.view.front now.view.front
-  pub owed : now.view.own.owed ≡ old.view.own.owed ++ cells_in added
+  pub owed : now.view.dues.owed ≡ old.view.dues.owed ++ cells_in added
   pub vertices : All (IsVertex g.world now.view.front) added
   pub drawn : AreWhole g.world now.view.front waiting
   pub counted : arrows ≡ sum_by (arrows_of g.world.space) waiting

@@ -24,7 +24,7 @@ pub(crate) fn deal(
     requires numbers { growers ≤ seat.old.view.left }
     ensures { IfOk result (λ jobs. IsDealt graph.now seat.old seat.new waiting.now growers jobs.items) }
 {
-    let _stake = seat.stake();
+    seat.reveal();
     let size = waiting.len().div_ceil(growers as usize);
     let mut jobs = Vec::with_capacity(alloc, growers as usize)?;
     let mut rest = waiting;

@@ -48,7 +48,7 @@ pub(crate) fn enter(
     ensures there { IfOk result (λ cell. HasVertex (state_of seat.new.view.front) cell (number graph.now.world.space code)) }
     ensures stop { IfErr result (IsStop graph.now.world) }
 {
-    let _stake = seat.stake();
+    seat.reveal();
     match add(graph, seat, code, origin) {
         Added::New { cell } => match added.push(OpenVertex { cell, code }) {
             Ok(()) => Ok(cell),
@@ -70,7 +70,7 @@ pub(crate) fn enter_roots(
     ensures there { IfOk result (λ _. All (λ root. HasCode (state_of seat.new.view.front) (number graph.now.world.space root)) graph.now.world.roots) }
     ensures stop { IfErr result (IsStop graph.now.world) }
 {
-    let _stake = seat.stake();
+    seat.reveal();
     let roots = graph.world().roots();
     'roots: for root in roots {
         match enter(graph, seat, *root, Origin::Root, added) {
@@ -96,7 +96,7 @@ pub(crate) fn draw_all(
     ensures stop { IfErr result (IsStop graph.now.world) }
 {
     let _world = graph.world();
-    let _stake = seat.stake();
+    seat.reveal();
     let mut arrows = 0;
     'vertices: for vertex in waiting {
         match draw_vertex(graph, steps, seat, *vertex, added) {
@@ -124,7 +124,7 @@ fn draw_vertex(
     ensures few { IfOk result (λ arrows. arrows ≤ 8) }
     ensures stop { IfErr result (IsStop graph.now.world) }
 {
-    let _stake = seat.stake();
+    seat.reveal();
     let rank = steps.cartan().rank();
     let reading = steps.read(vertex.code);
     let mut arrows = 0;

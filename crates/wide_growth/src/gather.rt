@@ -30,7 +30,7 @@ pub(crate) fn gather(
     ensures stop { IfErr result (IsStop graph.now.world) }
 {
     let _world = graph.world();
-    let _stake = seat.stake();
+    seat.reveal();
     let mut shares = shares;
     let mut added = Vec::new(alloc);
     let mut arrows = 0;

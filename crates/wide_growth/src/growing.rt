@@ -8,11 +8,12 @@ ghost use Rattle.wide_growth.specs.Grown.{IsGrownTo};
 
 use crate::drawing::{Stop, enter_roots};
 use crate::rounds::grow;
-use crystal_streams::{Gate, NoMemory};
+use crystal_streams::NoMemory;
 use std::alloc::Global;
 use std::thread::Threads;
 use wide_rule::{WideGraph, WideSeat};
 use wide_words::{WideCode, WideSpace, WideSteps};
+use worker_gate::Gate;
 
 /// How a growth ended.
 #[derive(Clone, Copy, Debug, PartialEq, Eq)]

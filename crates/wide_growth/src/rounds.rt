@@ -9,11 +9,11 @@ use crate::drawing::{OpenVertex, Stop, draw_all};
 use crate::gather::{Gathered, gather};
 use crate::growing::WideGrown;
 use crate::threads::work_all;
-use crystal_streams::Gate;
 use std::alloc::Global;
 use std::thread::Threads;
 use wide_rule::{WideGraph, WideSeat, settle};
 use wide_words::WideSteps;
+use worker_gate::Gate;
 
 /// With fewer open vertices than so many for each grower, a round is drawn by one seat alone: threads would cost more than
 /// they save.
@@ -44,7 +44,7 @@ pub(crate) fn grow<T: Threads + Sync, G: Gate>(
     let mut vertices = 0;
     let mut arrows = 0;
     'rounds: while !waiting.is_empty() {
-        let _stake = seat.stake();
+        seat.reveal();
         if capacity - vertices < waiting.len() {
             return Err(Stop::Full);
         }
@@ -54,7 +54,7 @@ pub(crate) fn grow<T: Threads + Sync, G: Gate>(
         arrows += gathered.arrows;
         waiting = gathered.added;
     }
-    let _stake = seat.stake();
+    seat.reveal();
     let _closed = settle(graph, seat);
     Ok(WideGrown::Closed {
         vertices: vertices as u32,

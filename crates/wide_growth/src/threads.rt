@@ -7,12 +7,12 @@ ghost use Rattle.wide_growth.specs.Rounds.{CanDraw, IsDone};
 
 use crate::drawing::Stop;
 use crate::work::{Job, Share, work};
-use crystal_streams::Gate;
 use std::alloc::AllocError;
 use std::thread;
 use std::thread::Threads;
 use wide_rule::WideGraph;
 use wide_words::WideSteps;
+use worker_gate::Gate;
 
 /// Does each job on a thread of its own.
 pub(crate) fn work_all<T: Threads + Sync, G: Gate>(

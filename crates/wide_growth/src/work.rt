@@ -3,10 +3,10 @@ ghost use Rattle.std.specs.Prelude.{◌≡◌};
 ghost use Rattle.wide_growth.specs.Rounds.{CanDraw, IsDone};
 
 use crate::drawing::{OpenVertex, Stop, draw_all};
-use crystal_streams::Gate;
 use std::alloc::Global;
 use wide_rule::{WideGraph, WideSeat};
 use wide_words::WideSteps;
+use worker_gate::Gate;
 
 /// What a grower is given: its number, its turn at the gate, a seat of its own, and its part of the open vertices.
 #[derive(Drop)]

@@ -1,26 +1,17 @@
 -- The search for a pair along its path, in one state, by the words of the table.
-use Rattle.std.proofs.Common.{◌≡◌, ◌≢◌, refl, sym, ap, subst, ◌∙◌, ℕ, zero, suc, ◌+◌, ◌-◌, ◌<◌, ◌≤◌, ◌⊎◌, inl, inr, true, nat_eq, eqb-true, List, [], ◌∷◌, ◌++◌, length, Some, None, Contains, length-append, arith}
-use Rattle.std.specs.List.{list_any, IsDistinct}
-use Rattle.std.proofs.lemmas.Cmp.{nat_eq_equiv}
-use Rattle.std.proofs.lemmas.Grind.{common_steps}
-use Rattle.std.proofs.lemmas.List.Elements.{Contains-push_cases, Contains-append_left, Contains-append_right}
-use Rattle.std.proofs.lemmas.Map.Made.{length-le_from_is_member}
-use Rattle.std.proofs.lemmas.Map.Views.{Contains-from_any, list_any-from_Contains}
+use Rattle.std.proofs.Common.{◌≡◌, ◌≢◌, sym, ap, subst, ◌∙◌, ℕ, ◌+◌, ◌-◌, ◌<◌, ◌≤◌, ◌⊎◌, inl, inr, true, List, ◌++◌, length, Some, None, Contains, length-append, arith}
+use Rattle.std.proofs.lemmas.List.Elements.{Contains-append_left, Contains-append_right}
 use Rattle.graph_history.specs.History.{Vertex, State, vertex_at, HasVertex, HasSome, IsNew}
-use Rattle.graph_history.proofs.CellLists.{distinct_push}
 use Rattle.graph_history.proofs.Histories.{one_code}
 use Rattle.graph_history.proofs.VertexLists.{keys, length-keys, vertex_in, has_key}
-use Rattle.graph_rule.proofs.Paths.{cell_below, one_place}
+use Rattle.graph_rule.proofs.Paths.{less_or, cell_below, last_place, path_filled}
 use Rattle.wide_words.specs.declared.spaces.WideCode.{WideCode}
 use Rattle.wide_words.specs.WideSpaces.{IsWide, number}
 use Rattle.wide_words.specs.WideHistory.{WideWorldType, flat}
 use Rattle.wide_rule.specs.Layout.{cell_count, first_word, pair_of, mixed, cell_on, is_last, IsLaid, IsPlaced, IsPassed, IsSearched, HasSeen}
 use Rattle.wide_rule.specs.Rule.{IsTrue}
-use Rattle.wide_rule.specs.declared.own.Seen.{Seen}
+use Rattle.wide_rule.specs.declared.dues.Seen.{Seen}
 use Rattle.wide_rule.proofs.Pairs.{high_number, pair_number}
-
-less_or : (i j : ℕ) → (i < j) ⊎ ((i ≡ j) ⊎ (j < i))
-less_or i j = grind arith
 
 pub path_below : (w : WideWorldType) (x : WideCode) (k : ℕ) → cell_on w x k < cell_count w
 path_below w x k = cell_below (flat w) (mixed x) k (omega arith)
@@ -97,12 +88,6 @@ module _ (w : WideWorldType) (words : List ℕ) (s : State) (laid : IsLaid w wor
               free_none c free (subst (λ (e : ℕ). HasVertex s e num) cell there)
           by (inr (inr less)) = no_half free less
 
-      last_steps : is_last w x c ≡ true → q.steps + 1 ≡ cell_count w
-      last_steps last =
-          let end : c ≡ cell_on w x (cell_count w - 1) = eqb-true c (cell_on w x (cell_count w - 1)) last in
-          let short = q.short in
-          let same = one_place (flat w) (mixed x) q.steps (cell_count w - 1) short (omega arith) (sym q.at ∙ end) in omega arith
-
       -- so does the last cell, where it is passed too
       pub new_end : Passes c → is_last w x c ≡ true → IsNew s num
       new_end here last d there = by (less_or p.steps q.steps)
@@ -115,33 +100,10 @@ module _ (w : WideWorldType) (words : List ℕ) (s : State) (laid : IsLaid w wor
           by (inr (inl same)) =
               let cell : d ≡ c = p.at ∙ ap (cell_on w x) same ∙ sym q.at in
               passed_other c here (subst (λ (e : ℕ). HasVertex s e num) cell there)
-          by (inr (inr less)) = let end = last_steps last in let short = p.short in omega arith
+          by (inr (inr less)) = let end = last_place (flat w) (mixed x) q.steps c q.short q.at last in let short = p.short in omega arith
 
   -- where all cells of the path are passed, every cell has a first word. Each has a vertex, or is one of a list of others
   module _ (c : ℕ) (q : Searches c) (others : List ℕ) (alone : (d : ℕ) → d < cell_count w → first_word words d ≢ 0 → HasSome s d ⊎ Contains others d) where
-    abbrev path : ℕ → List ℕ
-    path zero = []
-    path (suc k) = path k ++ cell_on w x k ∷ []
-
-    path_long : (k : ℕ) → length (path k) ≡ k
-    path_long zero = refl
-    path_long (suc k) = grind (arith, common_steps, path_long k)
-
-    on_path : (k e : ℕ) → Contains (path k) e → (j : ℕ) × (j < k) × (e ≡ cell_on w x j)
-    on_path zero e (j, below, is_there) = absurd (omega arith)
-    on_path (suc k) e has =
-        elim (Contains-push_cases (path k) (cell_on w x k) e has) [
-          | inl before ↦ let r = on_path k e before in (r.0, omega (arith, r.1), r.2)
-          | inr here ↦ (k, omega arith, sym here)
-        ]
-
-    path_apart : (k : ℕ) → k ≤ cell_count w → IsDistinct nat_eq (path k)
-    unfolding IsDistinct
-    path_apart zero short = tt
-    path_apart (suc k) short =
-        distinct_push (path k) (cell_on w x k) (path_apart k (omega arith))
-        (λ has. let r = on_path k (cell_on w x k) has in let same = one_place (flat w) (mixed x) k r.0 (omega arith) (omega (arith, r.1)) r.2 in omega (arith, r.1))
-
     abbrev cell : Vertex → ℕ
     cell u = u.cell
 
@@ -166,11 +128,7 @@ module _ (w : WideWorldType) (words : List ℕ) (s : State) (laid : IsLaid w wor
 
     pub full_end : Passes c → is_last w x c ≡ true → (placed : (d y : ℕ) → HasVertex s d y → IsPlaced w words s (pair_of w y) d) → cell_count w ≤ length s.vertices + length others
     full_end here last placed =
-        let end = last_steps placed c q last in
-        let some : (e : ℕ) → list_any (nat_eq e) (path (cell_count w)) ≡ true → list_any (nat_eq e) taken_cells ≡ true =
-        λ e has. let r = on_path (cell_count w) e (Contains-from_any eqb-true e (path (cell_count w)) has) in
-        let passed = each_passed r.0 here (omega (arith, r.1)) in
-        let first : first_word words e ≢ 0 = λ z. passed.0 (ap (first_word words) (sym r.2) ∙ z) in
-        list_any-from_Contains nat_eq_equiv e taken_cells (in_taken e (alone e (subst (λ (d : ℕ). d < cell_count w) (sym r.2) (path_below w x r.0)) first)) in
-        let few = length-le_from_is_member nat_eq_equiv (path (cell_count w)) taken_cells (path_apart (cell_count w) (omega arith)) some in
-        omega (arith, path_long (cell_count w), length-keys cell s.vertices, length-append (keys cell s.vertices) others)
+        let end = last_place (flat w) (mixed x) q.steps c q.short q.at last in
+        let few = path_filled (flat w) (mixed x) taken_cells
+        (λ k below. let passed = each_passed k here (omega arith) in in_taken (cell_on w x k) (alone (cell_on w x k) (path_below w x k) passed.0)) in
+        omega (arith, length-keys cell s.vertices, length-append (keys cell s.vertices) others)

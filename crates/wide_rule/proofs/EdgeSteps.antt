@@ -1,8 +1,7 @@
 -- The steps on arrows: loads, and the exchange that draws an arrow.
-use Rattle.std.proofs.Common.{◌≡◌, ◌≢◌, refl, sym, ap, subst, ◌∙◌, ℕ, ◌+◌, ◌<◌, ◌==◌, ◌&&◌, ◌⊎◌, inl, inr, Bool, true, false, eqb, List, [], ◌∷◌, length, set, slice_index, Option, Some, None, Contains, arith}
+use Rattle.std.proofs.Common.{◌≡◌, ◌≢◌, refl, sym, ap, subst, ◌∙◌, ℕ, ◌+◌, ◌*◌, ◌<◌, ◌==◌, ◌⊎◌, inl, inr, Bool, false, eqb, List, [], ◌∷◌, set, slice_index, Option, Some, None, Contains, arith}
 use Rattle.std.proofs.lemmas.Bool.{ne_eqb}
-use Rattle.std.proofs.lemmas.Grind.{common_steps}
-use Rattle.std.proofs.lemmas.List.{set-get_or, get_or-set_same, get_or-set_other, length-set}
+use Rattle.std.proofs.lemmas.List.{set-get_or, get_or-set_other, length-set}
 use mathlib.Core.Option.{some, none}
 use lib.ListN.{get_elem?}
 use prog.Atomic.{either}
@@ -12,26 +11,26 @@ use Rattle.crystal_cartan.specs.declared.types.Arrow.{Arrow}
 use Rattle.tensor_words.specs.Operators.{IsArrow}
 use Rattle.graph_history.specs.declared.event.Act.{Act}
 use Rattle.graph_history.specs.declared.event.Act.TheVariants.{Drew, Saw}
-use Rattle.graph_history.specs.History.{State, after, state_from, state_of, target_at, same_arrow, HasVertex, HasSome, HasArrow, IsUndrawn, IsWhole}
+use Rattle.graph_history.specs.History.{State, after, state_from, state_of, target_at, HasVertex, HasSome, HasArrow, IsUndrawn, IsWhole}
 use Rattle.graph_history.specs.Laws.{Stays}
 use Rattle.graph_history.specs.Desks.{by}
-use Rattle.graph_history.specs.ArrowRows.{edge_place, edge_word}
-use Rattle.graph_history.proofs.Histories.{target_at-new, target_at-other, same_edge, own_edge, stays_after}
-use Rattle.graph_history.proofs.ArrowPlaces.{same_place, edge_fits}
+use Rattle.graph_history.specs.ArrowRows.{edge_word}
+use Rattle.graph_history.proofs.Histories.{stays_after}
+use Rattle.graph_history.proofs.ArrowPlaces.{edge_fits}
 use Rattle.graph_history.proofs.SoundStates.{IsSound}
 use Rattle.graph_rule.specs.Layout.{LeadsTo}
 use Rattle.graph_rule.specs.Told.{glanced_acts, drawn_acts}
 use Rattle.graph_rule.proofs.Views.{some_stays, whole_stays, state_more}
-use Rattle.graph_rule.proofs.EdgeSteps.{undrawn_word, drawn_word, leads_stays, same_target, target_few}
+use Rattle.graph_rule.proofs.EdgeSteps.{edges_drawn, undrawn_word, drawn_word, leads_stays, same_target, target_few}
 use Rattle.wide_words.specs.WideHistory.{WideWorldType, flat, WideLegalFrom}
 use Rattle.wide_words.proofs.WideSound.{wide_sound}
-use Rattle.wide_rule.specs.declared.own.Own.{Own}
-use Rattle.wide_rule.specs.Layout.{cell_count, rank, word_count, first_index, second_index, first_word, arrow_index, pair_of, cell_on, IsLaid, IsPlaced}
+use Rattle.wide_rule.specs.declared.dues.WideDues.{WideDues}
+use Rattle.wide_rule.specs.Layout.{cell_count, word_count, first_index, second_index, first_word, arrow_index, pair_of, cell_on, IsLaid, IsPlaced}
 use Rattle.wide_rule.specs.Rule.{WideView, IsKnown, IsRunning}
 use Rattle.wide_rule.specs.Values.{WideSeatValue, WideGraphValue, Belongs}
 use Rattle.wide_rule.specs.Told.{advanced, Advances, target_in, glanced, drawn}
 use Rattle.wide_rule.proofs.Deciding.{path_below}
-use Rattle.wide_rule.proofs.Moving.{fits_here, front_stays, OwedElsewhere, Moves, waiting_now, covered_now, held_now, saw_now, advance, tells}
+use Rattle.wide_rule.proofs.Moving.{fits_here, front_stays, OwedElsewhere, Moves, waiting_now, covered_now, owing_now, saw_now, advance, tells}
 use Rattle.wide_rule.proofs.CellSteps.{quiet}
 
 -- the words after an arrow was drawn
@@ -49,27 +48,13 @@ module _ (w : WideWorldType) (words : List ℕ) (s : State) (laid : IsLaid w wor
   pub first_same : (d : ℕ) → d < cell_count w → first_word new_words d ≡ first_word words d
   first_same d low = other_word (first_index d) (λ z. omega arith)
 
-  edge_laid : (d : ℕ) (b : Arrow) → d < cell_count w → IsArrow (flat w).space b → (z : Bool) → ((c == d) && same_arrow a b) ≡ z → slice_index new_words (arrow_index w d b) ≡ edge_word (target_at grown.drawn d b)
-  edge_laid d b low js true e =
-      let same = same_edge c d a b e in
-      let room : arrow_index w c a < length words = let fits = edge_fits (flat w) (cell_count w) c a below is in omega (arith, laid.count) in
-      let there : arrow_index w d b ≡ arrow_index w c a = λ i. arrow_index w (sym same.0 i) (sym same.1 i) in
-      ap (slice_index new_words) there ∙ get_or-set_same words (arrow_index w c a) (edge_word (Some t)) 0 room
-      ∙ ap edge_word (sym (target_at-new s.drawn (record { cell = c; arrow = a; to = t }) d b e (subst (λ (k : ℕ). target_at s.drawn k b ≡ None) same.0 (subst (λ (k : Arrow). target_at s.drawn c k ≡ None) same.1 free))))
-  edge_laid d b low js false e =
-      let ne : arrow_index w d b ≢ arrow_index w c a = λ z.
-      let places : edge_place (rank w) c a ≡ edge_place (rank w) d b = omega arith in
-      let same = same_place (flat w) c d a b is js places in
-      let own = own_edge c d a b same.0 same.1 in grind (arith, common_steps) in
-      other_word (arrow_index w d b) ne ∙ laid.edges d b low js ∙ ap edge_word (sym (target_at-other s.drawn (record { cell = c; arrow = a; to = t }) d b e))
-
   pub drew_laid : ((d x : ℕ) → HasVertex s d x → d < cell_count w) → IsLaid w new_words grown
   drew_laid within = record {
     count = length-set words (arrow_index w c a) (edge_word (Some t)) ∙ laid.count;
     zero_word = other_word 0 (λ z. omega arith) ∙ laid.zero_word;
     highs = λ d x there. first_same d (within d x there) ∙ laid.highs d x there;
     lows = λ d low. other_word (second_index d) (λ z. omega arith) ∙ laid.lows d low;
-    edges = λ d b low js. edge_laid d b low js ((c == d) && same_arrow a b) refl;
+    edges = edges_drawn (flat w) (1 + 2 * cell_count w) words s (omega (arith, laid.count)) laid.edges c a t below is free;
   }
 
 module _ {key : WideWorldType} {words : List ℕ} {views : List WideView} (r : IsRunning key words views) (id : ℕ) (v : WideView) (at : get_elem? views id ≡ some v) (live : 0 < v.stake) (c : ℕ) (a : Arrow) (is : IsArrow (flat key).space a) where
@@ -96,7 +81,7 @@ module _ {key : WideWorldType} {words : List ℕ} {views : List WideView} (r : I
     same_first : (d : ℕ) → d < cell_count key → first_word words' d ≡ first_word words d
     same_first d low = first_same key words S r.laid c a t below is free d low
 
-    covered_then : (e y : ℕ) → HasVertex then_state e y → IsWhole (flat key) then_state e ⊎ (OwedElsewhere r id v at live e ⊎ Contains v.own.owed e)
+    covered_then : (e y : ℕ) → HasVertex then_state e y → IsWhole (flat key) then_state e ⊎ (OwedElsewhere r id v at live e ⊎ Contains v.dues.owed e)
     covered_then e y there =
         elim (covered_now r id v at live e y there) [
           | inl done ↦ inl (whole_stays (flat key) S then_state e stays done)
@@ -115,7 +100,7 @@ module _ {key : WideWorldType} {words : List ℕ} {views : List WideView} (r : I
           filled = λ k less z. p.filled k less (sym (same_first (cell_on key (pair_of key y) k) (path k)) ∙ z);
         }
 
-    pub drew : Moves r id v at live (Drew c a t ∷ []) v.own words'
+    pub drew : Moves r id v at live (Drew c a t ∷ []) v.dues words'
     drew = record {
       legal = (record { code = leads.0; there = leads.1; arrow = is; undrawn = free; target = leads.2 }, tt);
       laid = drew_laid key words S r.laid c a t below is free is_sound.below;
@@ -123,7 +108,7 @@ module _ {key : WideWorldType} {words : List ℕ} {views : List WideView} (r : I
       waiting = λ d low some_word. waiting_now r id v at live d low (λ z. some_word (same_first d low ∙ z));
       saw = λ d n has. let old = saw_now r id v at live d n has in (old.0, same_first d old.0 ∙ old.1, old.2);
       stay = λ d n old. (old.0, same_first d old.0 ∙ old.1, old.2);
-      held = held_now r id v at live;
+      owing = owing_now r id v at live;
       covered = covered_then;
       counted = λ weigh. refl;
     }
@@ -138,8 +123,8 @@ in_words v g c a b known there is i n at count =
     let fits = edge_fits (flat g.world) (cell_count g.world) c a (cell_there v g c b known there) (subst (λ (w : WideWorldType). IsArrow (flat w).space a) b.world is) in omega (arith, fits, at, count)
 
 -- after a load the word is that of a cell of the table
-pub word_few : (v w : WideView) (acts : List Act) (own : Own) (g : WideGraphValue) (c : ℕ) (a : Arrow) → v.world ≡ g.world → Advances v w acts own → (n : ℕ) → n ≡ edge_word (target_in w c a) → n < cell_count g.world + 2
-word_few v w acts own g c a world step n is =
+pub word_few : (v w : WideView) (acts : List Act) (dues : WideDues) (g : WideGraphValue) (c : ℕ) (a : Arrow) → v.world ≡ g.world → Advances v w acts dues → (n : ℕ) → n ≡ edge_word (target_in w c a) → n < cell_count g.world + 2
+word_few v w acts dues g c a world step n is =
     let same : w.world ≡ g.world = ap (λ (x : WideView). x.world) step.is ∙ world in
     let few = target_few (flat w.world) (state_of w.front) c a (wide_sound w.world w.front step.known.legal) (omega arith) in
     subst (λ (u : WideWorldType). n < cell_count u + 2) same (subst (λ (k : ℕ). k < cell_count w.world + 2) (sym is) few)
@@ -183,8 +168,8 @@ module _ (key : WideWorldType) (slots id : ℕ) (me : Me Unit WideView) (live : 
     glance_legal n None e = (record { there = there_now; arrow = is_now; undrawn = e }, tt)
     glance_legal n (Some t) e = (e, tt)
 
-    still : (acts : List Act) → state_from now (by me.0.number acts) ≡ now → WideLegalFrom key now (by me.0.number acts) → Moves r id me.0 at live acts me.0.own (set s.words i found)
-    still acts same legal = quiet r id me.0 at live acts me.0.own (set s.words i found) (set-get_or s.words i 0) same legal refl (λ d e. inr e) (saw_now r id me.0 at live)
+    still : (acts : List Act) → state_from now (by me.0.number acts) ≡ now → WideLegalFrom key now (by me.0.number acts) → Moves r id me.0 at live acts me.0.dues (set s.words i found)
+    still acts same legal = quiet r id me.0 at live acts me.0.dues (set s.words i found) (set-get_or s.words i 0) same legal refl (λ d e. inr e) (saw_now r id me.0 at live)
 
   pub glances : Allows rule slots id me i (λ n. n) (glanced c a any me)
   glances s r homes at fit =
@@ -193,15 +178,15 @@ module _ (key : WideWorldType) (slots id : ℕ) (me : Me Unit WideView) (live : 
       let same = glance_still s r at me.0.number o in
       let words' = set s.words i (slice_index s.words i) in
       let m = still s r at acts same (glance_legal s r at me.0.number o refl) in
-      let next = advanced me.0 r.history acts me.0.own in
+      let next = advanced me.0 r.history acts me.0.dues in
       let front : target_in next c a ≡ o = ap (λ (z : State). target_at z.drawn c a) (state_more r.history me.0.number acts ∙ same) in (
         next,
         keeps,
         tt,
-        advance r id me.0 at live acts me.0.own words' m,
+        advance r id me.0 at live acts me.0.dues words' m,
         (
           refl,
-          subst (λ (z : Option (Option ℕ)). Advances me.0 next (glanced_acts c a z) me.0.own) (sym front) (tells r id me.0 at live acts me.0.own words' m),
+          subst (λ (z : Option (Option ℕ)). Advances me.0 next (glanced_acts c a z) me.0.dues) (sym front) (tells r id me.0 at live acts me.0.dues words' m),
           read s r at ∙ ap edge_word (sym front),
         ),
       )
@@ -221,14 +206,14 @@ module _ (key : WideWorldType) (slots id : ℕ) (me : Me Unit WideView) (live : 
       won zero_found =
           let m = drew r id me.0 at live c a (is_now s r at) t leads_now (undrawn_word (target_at (state_of r.history).drawn c a) (sym (read s r at) ∙ zero_found)) in
           let words' = set s.words (arrow_index key c a) (edge_word (Some t)) in
-          let next = advanced me.0 r.history (Drew c a t ∷ []) me.0.own in (
+          let next = advanced me.0 r.history (Drew c a t ∷ []) me.0.dues in (
             next,
             keeps,
             tt,
-            subst (λ (k : ℕ). IsRunning key (set s.words k (edge_word (Some t))) (set s.views id next)) (sym (index_now s r at)) (advance r id me.0 at live (Drew c a t ∷ []) me.0.own words' m),
+            subst (λ (k : ℕ). IsRunning key (set s.words k (edge_word (Some t))) (set s.views id next)) (sym (index_now s r at)) (advance r id me.0 at live (Drew c a t ∷ []) me.0.dues words' m),
             (
               refl,
-              subst (λ (k : ℕ). Advances me.0 next (drawn_acts c a t (k == 0)) me.0.own) (sym zero_found) (tells r id me.0 at live (Drew c a t ∷ []) me.0.own words' m),
+              subst (λ (k : ℕ). Advances me.0 next (drawn_acts c a t (k == 0)) me.0.dues) (sym zero_found) (tells r id me.0 at live (Drew c a t ∷ []) me.0.dues words' m),
               λ ne. absurd (ne zero_found),
             ),
           )
@@ -241,15 +226,15 @@ module _ (key : WideWorldType) (slots id : ℕ) (me : Me Unit WideView) (live : 
           let acts = Saw c a t ∷ [] in
           let words' = set s.words i (found s r at) in
           let m = still s r at acts refl (seen, tt) in
-          let next = advanced me.0 r.history acts me.0.own in
+          let next = advanced me.0 r.history acts me.0.dues in
           let test : (found s r at == 0) ≡ false = ne_eqb (found s r at) 0 ne in (
             next,
             keeps,
             tt,
-            advance r id me.0 at live acts me.0.own words' m,
+            advance r id me.0 at live acts me.0.dues words' m,
             (
               refl,
-              subst (λ (b : Bool). Advances me.0 next (drawn_acts c a t b) me.0.own) (sym test) (tells r id me.0 at live acts me.0.own words' m),
+              subst (λ (b : Bool). Advances me.0 next (drawn_acts c a t b) me.0.dues) (sym test) (tells r id me.0 at live acts me.0.dues words' m),
               λ z. read s r at ∙ ap edge_word seen,
             ),
           )

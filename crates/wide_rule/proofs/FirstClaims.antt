@@ -11,12 +11,12 @@ use Rattle.atomic_table.proofs.Lists.{exchanged}
 use Rattle.graph_history.specs.History.{State, state_of, HasSome}
 use Rattle.wide_words.specs.declared.spaces.WideCode.{WideCode}
 use Rattle.wide_words.specs.WideHistory.{WideWorldType}
-use Rattle.wide_rule.specs.declared.own.Own.{Own}
-use Rattle.wide_rule.specs.declared.own.Seen.{Seen}
+use Rattle.wide_rule.specs.declared.dues.WideDues.{WideDues}
+use Rattle.wide_rule.specs.declared.dues.Seen.{Seen}
 use Rattle.wide_rule.specs.Layout.{cell_count, first_index, second_index, first_word, arrow_index, pair_of, IsLaid, IsPlaced}
 use Rattle.wide_rule.specs.Rule.{WideView, IsTrue, IsRunning}
 use Rattle.wide_rule.specs.Told.{advanced, Advances, with_seen, claimed, tried, IsAsSeen, first_claimed}
-use Rattle.wide_rule.proofs.Moving.{fits_here, PendingElsewhere, Moves, waiting_now, covered_now, held_now, saw_now, advance, tells}
+use Rattle.wide_rule.proofs.Moving.{fits_here, PendingElsewhere, Moves, waiting_now, covered_now, owing_now, saw_now, advance, tells}
 use Rattle.wide_rule.proofs.CellSteps.{quiet, seen_more}
 
 -- the words after the exchange of an empty first word
@@ -54,7 +54,7 @@ module _ (w : WideWorldType) (words : List ℕ) (c n : ℕ) (below : c < cell_co
     }
 
 module _ {key : WideWorldType} {words : List ℕ} {views : List WideView} (r : IsRunning key words views) (id : ℕ) (v : WideView) (at : get_elem? views id ≡ some v) (live : 0 < v.stake)
-    (c : ℕ) (x : WideCode) (below : c < cell_count key) (idle : v.own.pending ≡ None) (empty : first_word words c ≡ 0) where
+    (c : ℕ) (x : WideCode) (below : c < cell_count key) (idle : v.dues.pending ≡ None) (empty : first_word words c ≡ 0) where
   abbrev S : State
   S = state_of r.history
 
@@ -67,7 +67,7 @@ module _ {key : WideWorldType} {words : List ℕ} {views : List WideView} (r : I
   waiting_then : (d : ℕ) → d < cell_count key → first_word words' d ≢ 0 → HasSome S d ⊎ (PendingElsewhere r id v at live d ⊎ (Some c ≡ Some d))
   waiting_then d low some_word = by_cell (c == d) refl
     where
-      old : HasSome S d ⊎ (PendingElsewhere r id v at live d ⊎ (v.own.pending ≡ Some d)) → HasSome S d ⊎ (PendingElsewhere r id v at live d ⊎ (Some c ≡ Some d))
+      old : HasSome S d ⊎ (PendingElsewhere r id v at live d ⊎ (v.dues.pending ≡ Some d)) → HasSome S d ⊎ (PendingElsewhere r id v at live d ⊎ (Some c ≡ Some d))
       old (inl there) = inl there
       old (inr (inl other)) = inr (inl other)
       old (inr (inr mine)) = absurd (let e : None ≡ Some d = sym idle ∙ mine in cc)
@@ -79,25 +79,25 @@ module _ {key : WideWorldType} {words : List ℕ} {views : List WideView} (r : I
           let same : first_word words' d ≡ first_word words d = get_or-set_other words (first_index c) (first_index d) (x.high + 1) 0 (λ z. ne (omega arith)) in
           old (waiting_now r id v at live d low (λ z. some_word (same ∙ z)))
 
-  pub claims : Moves r id v at live [] (claimed c x v.own) words'
+  pub claims : Moves r id v at live [] (claimed c x v.dues) words'
   claims = record {
     legal = tt;
     laid = claimed_laid key words c (x.high + 1) below empty S r.laid;
     placed = λ d y there. placed_claimed key words c (x.high + 1) below empty S r.laid (pair_of key y) d (r.placed d y there);
     waiting = waiting_then;
     saw = λ d m has.
-        elim (Contains-push_cases v.own.seen (record { cell = c; word = x.high + 1 }) (record { cell = d; word = m }) has) [
+        elim (Contains-push_cases v.dues.seen (record { cell = c; word = x.high + 1 }) (record { cell = d; word = m }) has) [
           | inl before ↦ true_stays key words c (x.high + 1) below empty d m (saw_now r id v at live d m before)
           | inr same ↦ subst (λ (z : Seen). IsTrue key words' z.cell z.word) same (below, here_now, (λ z. omega arith))
         ];
     stay = true_stays key words c (x.high + 1) below empty;
-    held = held_now r id v at live;
+    owing = owing_now r id v at live;
     covered = covered_now r id v at live;
     counted = λ weigh. refl;
   }
 
 -- what the table asks of the exchange
-module _ (key : WideWorldType) (slots id : ℕ) (me : Me Unit WideView) (live : 0 < me.0.stake) (c : ℕ) (below : c < cell_count me.0.world) (x : WideCode) (idle : me.0.own.pending ≡ None) where
+module _ (key : WideWorldType) (slots id : ℕ) (me : Me Unit WideView) (live : 0 < me.0.stake) (c : ℕ) (below : c < cell_count me.0.world) (x : WideCode) (idle : me.0.dues.pending ≡ None) where
   abbrev rule : TableState Unit WideView → Type 0
   rule s = IsRunning key s.words s.views
 
@@ -117,33 +117,33 @@ module _ (key : WideWorldType) (slots id : ℕ) (me : Me Unit WideView) (live : 
     abbrev Answer : ℕ → Type 0
     Answer word = (w : WideView) × (a : TableAct Unit) × Valid s.homes me.1 a × IsRunning key (set s.words (first_index c) word) (set s.views id w) × first_claimed c x any me found (w, carried_after me.1 a)
 
-    own_is : (b : Bool) → (found == 0) ≡ b → (if b then claimed c x me.0.own else with_seen c found me.0.own) ≡ tried c x found me.0.own
-    own_is b e = ap (λ (z : Bool). if z then claimed c x me.0.own else with_seen c found me.0.own) (sym e)
+    own_is : (b : Bool) → (found == 0) ≡ b → (if b then claimed c x me.0.dues else with_seen c found me.0.dues) ≡ tried c x found me.0.dues
+    own_is b e = ap (λ (z : Bool). if z then claimed c x me.0.dues else with_seen c found me.0.dues) (sym e)
 
     won : found ≡ 0 → Answer (x.high + 1)
     won zero_found =
         let m = claims r id me.0 at live c x in_table idle zero_found in
-        let own = claimed c x me.0.own in
-        let next = advanced me.0 r.history [] own in
+        let dues = claimed c x me.0.dues in
+        let next = advanced me.0 r.history [] dues in
         let words' = set s.words (first_index c) (x.high + 1) in (
           next,
           keeps,
           tt,
-          advance r id me.0 at live [] own words' m,
-          (refl, subst (λ (o : Own). Advances me.0 next [] o) (own_is true (eq-eqb found 0 zero_found)) (tells r id me.0 at live [] own words' m), as_seen),
+          advance r id me.0 at live [] dues words' m,
+          (refl, subst (λ (o : WideDues). Advances me.0 next [] o) (own_is true (eq-eqb found 0 zero_found)) (tells r id me.0 at live [] dues words' m), as_seen),
         )
 
     lost : found ≢ 0 → Answer found
     lost ne =
-        let own = with_seen c found me.0.own in
+        let dues = with_seen c found me.0.dues in
         let words' = set s.words (first_index c) found in
-        let m = quiet r id me.0 at live [] own words' (set-get_or s.words (first_index c) 0) refl tt refl (λ d e. inr e) (seen_more r id me.0 at live c found (in_table, refl, ne)) in
-        let next = advanced me.0 r.history [] own in (
+        let m = quiet r id me.0 at live [] dues words' (set-get_or s.words (first_index c) 0) refl tt refl (λ d e. inr e) (seen_more r id me.0 at live c found (in_table, refl, ne)) in
+        let next = advanced me.0 r.history [] dues in (
           next,
           keeps,
           tt,
-          advance r id me.0 at live [] own words' m,
-          (refl, subst (λ (o : Own). Advances me.0 next [] o) (own_is false (ne_eqb found 0 ne)) (tells r id me.0 at live [] own words' m), as_seen),
+          advance r id me.0 at live [] dues words' m,
+          (refl, subst (λ (o : WideDues). Advances me.0 next [] o) (own_is false (ne_eqb found 0 ne)) (tells r id me.0 at live [] dues words' m), as_seen),
         )
 
   pub claims_first : Allows rule slots id me (first_index c) (λ n. either (eqb n 0) (x.high + 1) n) (first_claimed c x any me)

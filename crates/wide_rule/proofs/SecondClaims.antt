@@ -20,13 +20,13 @@ use Rattle.graph_rule.proofs.Views.{some_stays, whole_stays, state_more}
 use Rattle.wide_words.specs.declared.spaces.WideCode.{WideCode}
 use Rattle.wide_words.specs.WideSpaces.{IsWide, number}
 use Rattle.wide_words.specs.WideHistory.{WideWorldType, flat, WideLegalFrom}
-use Rattle.wide_rule.specs.declared.own.Own.{Own}
+use Rattle.wide_rule.specs.declared.dues.WideDues.{WideDues}
 use Rattle.wide_rule.specs.Layout.{cell_count, first_index, second_index, first_word, arrow_index, high_of, low_word, pair_of, cell_on, IsLaid, IsPlaced, HasSeen, IsSearched}
 use Rattle.wide_rule.specs.Rule.{WideView, cells_of, IsTrue, IsRunning}
 use Rattle.wide_rule.specs.Told.{advanced, Advances, unless, finished, claim_second_acts, second_claimed}
 use Rattle.wide_rule.proofs.Pairs.{high_number, low_number, pair_number}
 use Rattle.wide_rule.proofs.Deciding.{Searches}
-use Rattle.wide_rule.proofs.Moving.{PendingElsewhere, OwedElsewhere, Moves, waiting_now, covered_now, held_now, saw_now, advance, tells}
+use Rattle.wide_rule.proofs.Moving.{PendingElsewhere, OwedElsewhere, Moves, waiting_now, covered_now, owing_now, saw_now, advance, tells}
 use Rattle.wide_rule.proofs.CellSteps.{quiet, world_is, in_table, wide_here, code_below, path_here, new_here, own_half, empty_second, free_second, full_second, met_second, read_second, cause_here}
 
 -- the words after a second word was put in
@@ -81,11 +81,11 @@ module _ (w : WideWorldType) (words : List ℕ) (s : State) (laid : IsLaid w wor
   cells_grown weigh = ap (sum_by weigh) (map-append (λ (u : Vertex). u.cell) s.vertices (vertex ∷ [])) ∙ sum_by_push weigh (cells_of s) c
 
 -- what the seat has begun after it
-abbrev pub put_in : ℕ → Own → Own
-put_in c own = record own { owed = own.owed ++ c ∷ []; pending = unless c own.pending }
+abbrev pub put_in : ℕ → WideDues → WideDues
+put_in c dues = record dues { owed = dues.owed ++ c ∷ []; pending = unless c dues.pending }
 
-abbrev pub let_go : ℕ → Own → Own
-let_go c own = record own { pending = unless c own.pending }
+abbrev pub let_go : ℕ → WideDues → WideDues
+let_go c dues = record dues { pending = unless c dues.pending }
 
 -- a pending cell that is another one stays pending
 pub unless_other : (c d : ℕ) (o : Option ℕ) → o ≡ Some d → d ≢ c → unless c o ≡ Some d
@@ -95,8 +95,8 @@ unless_other c d (Some p) e ne =
     ap (λ (b : Bool). if b then None else Some p) (ne_eqb p c (λ z. ne (sym same ∙ z))) ∙ ap (λ (k : ℕ). Some k) same
 
 module _ {key : WideWorldType} {words : List ℕ} {views : List WideView} (r : IsRunning key words views) (id : ℕ) (v : WideView) (at : get_elem? views id ≡ some v) (live : 0 < v.stake)
-    (c : ℕ) (x : WideCode) (low : c < cell_count v.world) (is_wide : IsWide v.world.space x) (q : IsSearched v.world (state_of v.front) v.own.seen x c)
-    (half : HasSeen v.own.seen c (x.high + 1)) (o : Origin) (cause : IsOrigin (flat key) (state_of r.history) (number key.space x) o)
+    (c : ℕ) (x : WideCode) (low : c < cell_count v.world) (is_wide : IsWide v.world.space x) (q : IsSearched v.world (state_of v.front) v.dues.seen x c)
+    (half : HasSeen v.dues.seen c (x.high + 1)) (o : Origin) (cause : IsOrigin (flat key) (state_of r.history) (number key.space x) o)
     (empty : slice_index words (second_index c) ≡ 0) where
   abbrev S : State
   S = state_of r.history
@@ -113,8 +113,8 @@ module _ {key : WideWorldType} {words : List ℕ} {views : List WideView} (r : I
   abbrev words' : List ℕ
   words' = set words (second_index c) (x.low + 1)
 
-  abbrev own : Own
-  own = put_in c v.own
+  abbrev dues : WideDues
+  dues = put_in c v.dues
 
   stays : Stays S then_state
   stays = stays_after S (Added c num o)
@@ -172,31 +172,31 @@ module _ {key : WideWorldType} {words : List ℕ} {views : List WideView} (r : I
           (subst (λ (n : ℕ). IsPlaced key words' then_state (pair_of key n) c) same.1
           (subst (λ (z : WideCode). IsPlaced key words' then_state z c) (sym (pair_number key x is)) placed_new))
 
-  waiting_then : (d : ℕ) → d < cell_count key → first_word words' d ≢ 0 → HasSome then_state d ⊎ (PendingElsewhere r id v at live d ⊎ (unless c v.own.pending ≡ Some d))
+  waiting_then : (d : ℕ) → d < cell_count key → first_word words' d ≢ 0 → HasSome then_state d ⊎ (PendingElsewhere r id v at live d ⊎ (unless c v.dues.pending ≡ Some d))
   waiting_then d within some_word = by_rule (waiting_now r id v at live d within (λ z. some_word (same_first d ∙ z)))
     where
-      mine : v.own.pending ≡ Some d → (b : Bool) → (d == c) ≡ b → HasSome then_state d ⊎ (PendingElsewhere r id v at live d ⊎ (unless c v.own.pending ≡ Some d))
+      mine : v.dues.pending ≡ Some d → (b : Bool) → (d == c) ≡ b → HasSome then_state d ⊎ (PendingElsewhere r id v at live d ⊎ (unless c v.dues.pending ≡ Some d))
       mine waits true e = inl (subst (λ (k : ℕ). HasSome then_state k) (sym (eqb-true d c e)) here_now)
-      mine waits false e = inr (inr (unless_other c d v.own.pending waits (eqb-false d c e)))
+      mine waits false e = inr (inr (unless_other c d v.dues.pending waits (eqb-false d c e)))
 
-      by_rule : HasSome S d ⊎ (PendingElsewhere r id v at live d ⊎ (v.own.pending ≡ Some d)) → HasSome then_state d ⊎ (PendingElsewhere r id v at live d ⊎ (unless c v.own.pending ≡ Some d))
+      by_rule : HasSome S d ⊎ (PendingElsewhere r id v at live d ⊎ (v.dues.pending ≡ Some d)) → HasSome then_state d ⊎ (PendingElsewhere r id v at live d ⊎ (unless c v.dues.pending ≡ Some d))
       by_rule (inl there) = inl (some_stays S then_state d stays there)
       by_rule (inr (inl other)) = inr (inl other)
       by_rule (inr (inr waits)) = mine waits (d == c) refl
 
-  covered_then : (d y : ℕ) → HasVertex then_state d y → IsWhole (flat key) then_state d ⊎ (OwedElsewhere r id v at live d ⊎ Contains own.owed d)
+  covered_then : (d y : ℕ) → HasVertex then_state d y → IsWhole (flat key) then_state d ⊎ (OwedElsewhere r id v at live d ⊎ Contains dues.owed d)
   covered_then d y there = by_push (vertex_at-push S.vertices (record { cell = c; code = num }) d y there)
     where
-      old : IsWhole (flat key) S d ⊎ (OwedElsewhere r id v at live d ⊎ Contains v.own.owed d) → IsWhole (flat key) then_state d ⊎ (OwedElsewhere r id v at live d ⊎ Contains own.owed d)
+      old : IsWhole (flat key) S d ⊎ (OwedElsewhere r id v at live d ⊎ Contains v.dues.owed d) → IsWhole (flat key) then_state d ⊎ (OwedElsewhere r id v at live d ⊎ Contains dues.owed d)
       old (inl done) = inl (whole_stays (flat key) S then_state d stays done)
       old (inr (inl other)) = inr (inl other)
-      old (inr (inr has)) = inr (inr (Contains-append_left v.own.owed (c ∷ []) d has))
+      old (inr (inr has)) = inr (inr (Contains-append_left v.dues.owed (c ∷ []) d has))
 
-      by_push : (vertex_at S.vertices d ≡ Some y) ⊎ ((c ≡ d) × (num ≡ y)) → IsWhole (flat key) then_state d ⊎ (OwedElsewhere r id v at live d ⊎ Contains own.owed d)
+      by_push : (vertex_at S.vertices d ≡ Some y) ⊎ ((c ≡ d) × (num ≡ y)) → IsWhole (flat key) then_state d ⊎ (OwedElsewhere r id v at live d ⊎ Contains dues.owed d)
       by_push (inl before) = old (covered_now r id v at live d y before)
-      by_push (inr same) = inr (inr (subst (λ (k : ℕ). Contains own.owed k) same.0 (Contains-push v.own.owed c)))
+      by_push (inr same) = inr (inr (subst (λ (k : ℕ). Contains dues.owed k) same.0 (Contains-push v.dues.owed c)))
 
-  pub adds : Moves r id v at live acts own words'
+  pub adds : Moves r id v at live acts dues words'
   adds = record {
     legal = (
       record {
@@ -213,19 +213,19 @@ module _ {key : WideWorldType} {words : List ℕ} {views : List WideView} (r : I
     waiting = waiting_then;
     saw = λ d m has. true_same key words S r.laid c x is o below own_word free d m (saw_now r id v at live d m has);
     stay = true_same key words S r.laid c x is o below own_word free;
-    held = λ d has.
-        elim (Contains-push_cases v.own.owed c d has) [
-          | inl before ↦ some_stays S then_state d stays (held_now r id v at live d before)
+    owing = λ d has.
+        elim (Contains-push_cases v.dues.owed c d has) [
+          | inl before ↦ some_stays S then_state d stays (owing_now r id v at live d before)
           | inr same ↦ subst (λ (k : ℕ). HasSome then_state k) same here_now
         ];
     covered = covered_then;
-    counted = λ weigh. let more = sum_by_push weigh v.own.owed c in let grows = cells_grown key words S r.laid c x is o below own_word free weigh in omega arith;
+    counted = λ weigh. let more = sum_by_push weigh v.dues.owed c in let grows = cells_grown key words S r.laid c x is o below own_word free weigh in omega arith;
   }
 
 -- what the table asks of the exchange
 module _ (key : WideWorldType) (slots id : ℕ) (me : Me Unit WideView) (live : 0 < me.0.stake) (c : ℕ) (below : c < cell_count me.0.world)
-    (x : WideCode) (is_wide : IsWide me.0.world.space x) (q : IsSearched me.0.world (state_of me.0.front) me.0.own.seen x c) (o : Origin)
-    (cause : IsOrigin (flat me.0.world) (state_of me.0.front) (number me.0.world.space x) o) (half : HasSeen me.0.own.seen c (x.high + 1)) where
+    (x : WideCode) (is_wide : IsWide me.0.world.space x) (q : IsSearched me.0.world (state_of me.0.front) me.0.dues.seen x c) (o : Origin)
+    (cause : IsOrigin (flat me.0.world) (state_of me.0.front) (number me.0.world.space x) o) (half : HasSeen me.0.dues.seen c (x.high + 1)) where
   abbrev rule : TableState Unit WideView → Type 0
   rule s = IsRunning key s.words s.views
 
@@ -266,15 +266,15 @@ module _ (key : WideWorldType) (slots id : ℕ) (me : Me Unit WideView) (live : 
     abbrev Answer : ℕ → Type 0
     Answer word = (w : WideView) × (a : TableAct Unit) × Valid s.homes me.1 a × IsRunning key (set s.words (second_index c) word) (set s.views id w) × second_claimed c x o any me found (w, carried_after me.1 a)
 
-    own_is : (b : Bool) → (found == 0) ≡ b → (if b then put_in c me.0.own else let_go c me.0.own) ≡ finished c found me.0.own
-    own_is b e = ap (λ (z : Bool). if z then put_in c me.0.own else let_go c me.0.own) (sym e)
+    own_is : (b : Bool) → (found == 0) ≡ b → (if b then put_in c me.0.dues else let_go c me.0.dues) ≡ finished c found me.0.dues
+    own_is b e = ap (λ (z : Bool). if z then put_in c me.0.dues else let_go c me.0.dues) (sym e)
 
     won : found ≡ 0 → Answer (x.low + 1)
     won zero_found =
         let m = adds r id me.0 at live c x below is_wide q half o (cause_here key slots id me live c below x is_wide q o cause s r at) zero_found in
-        let own = put_in c me.0.own in
+        let dues = put_in c me.0.dues in
         let acts = Added c (number key.space x) o ∷ [] in
-        let next = advanced me.0 r.history acts own in
+        let next = advanced me.0 r.history acts dues in
         let words' = set s.words (second_index c) (x.low + 1) in
         let acts_are : acts ≡ claim_second_acts me.0.world c x o found =
         ap (λ (b : Bool). if b then acts else (if found == x.low + 1 then Met c (number key.space x) ∷ [] else [])) (sym (eq-eqb found 0 zero_found))
@@ -282,42 +282,42 @@ module _ (key : WideWorldType) (slots id : ℕ) (me : Me Unit WideView) (live : 
           next,
           keeps,
           tt,
-          advance r id me.0 at live acts own words' m,
+          advance r id me.0 at live acts dues words' m,
           (
             refl,
-            subst (λ (l : List Act). Advances me.0 next l (finished c found me.0.own)) acts_are
-                (subst (λ (z : Own). Advances me.0 next acts z) (own_is true (eq-eqb found 0 zero_found)) (tells r id me.0 at live acts own words' m)),
+            subst (λ (l : List Act). Advances me.0 next l (finished c found me.0.dues)) acts_are
+                (subst (λ (z : WideDues). Advances me.0 next acts z) (own_is true (eq-eqb found 0 zero_found)) (tells r id me.0 at live acts dues words' m)),
             λ ne. absurd (ne zero_found),
           ),
         )
 
     lost : found ≢ 0 → Answer found
     lost ne =
-        let own = let_go c me.0.own in
+        let dues = let_go c me.0.dues in
         let acts = taken_acts me.0.world found in
         let words' = set s.words (second_index c) found in
         let full = full_second r id me.0 at live c x below is_wide q half ne in
         let same = taken_still me.0.world now found in
         let legal = subst (λ (w : WideWorldType). WideLegalFrom key now (by me.0.number (taken_acts w found))) (sym world_here) taken_legal in
-        let m = quiet r id me.0 at live acts own words' (set-get_or s.words (second_index c) 0) same legal refl (λ d e. still_waits d (full.0, full.1) e (d == c) refl) (saw_now r id me.0 at live) in
-        let next = advanced me.0 r.history acts own in (
+        let m = quiet r id me.0 at live acts dues words' (set-get_or s.words (second_index c) 0) same legal refl (λ d e. still_waits d (full.0, full.1) e (d == c) refl) (saw_now r id me.0 at live) in
+        let next = advanced me.0 r.history acts dues in (
           next,
           keeps,
           tt,
-          advance r id me.0 at live acts own words' m,
+          advance r id me.0 at live acts dues words' m,
           (
             refl,
-            subst (λ (l : List Act). Advances me.0 next l (finished c found me.0.own)) (taken_is me.0.world found ne)
-                (subst (λ (z : Own). Advances me.0 next acts z) (own_is false (ne_eqb found 0 ne)) (tells r id me.0 at live acts own words' m)),
+            subst (λ (l : List Act). Advances me.0 next l (finished c found me.0.dues)) (taken_is me.0.world found ne)
+                (subst (λ (z : WideDues). Advances me.0 next acts z) (own_is false (ne_eqb found 0 ne)) (tells r id me.0 at live acts dues words' m)),
             λ z. read_second r id me.0 at live c x below is_wide q half
                 ∙ ap (λ (t : State). low_word key (vertex_at t.vertices c)) (sym (state_more r.history me.0.number acts ∙ same))
                 ∙ ap (λ (w : WideWorldType). low_word w (vertex_at (state_of next.front).vertices c)) (sym world_here),
           ),
         )
       where
-        still_waits : (d : ℕ) → HasSome now c → me.0.own.pending ≡ Some d → (b : Bool) → (d == c) ≡ b → HasSome now d ⊎ (unless c me.0.own.pending ≡ Some d)
+        still_waits : (d : ℕ) → HasSome now c → me.0.dues.pending ≡ Some d → (b : Bool) → (d == c) ≡ b → HasSome now d ⊎ (unless c me.0.dues.pending ≡ Some d)
         still_waits d there waits true e = inl (subst (λ (k : ℕ). HasSome now k) (sym (eqb-true d c e)) there)
-        still_waits d there waits false e = inr (unless_other c d me.0.own.pending waits (eqb-false d c e))
+        still_waits d there waits false e = inr (unless_other c d me.0.dues.pending waits (eqb-false d c e))
 
   pub claims_second : Allows rule slots id me (second_index c) (λ n. either (eqb n 0) (x.low + 1) n) (second_claimed c x o any me)
   claims_second s r homes at fit = exchanged (slice_index s.words (second_index c)) 0 (x.low + 1) (Answer s r at) (won s r at) (lost s r at)

@@ -5,17 +5,12 @@ use Rattle.std.proofs.lemmas.List.Elements.{Contains-append_left, Contains-appen
 use mathlib.Core.Option.{some, some-injective, some-ne-none}
 use lib.ListN.{get_elem?}
 use Rattle.shared_seats.specs.Seats.{stakes}
-use Rattle.wide_rule.specs.Rule.{WideView, IsPending, due, dues}
-
--- stakes
-stakes-at : (views : List WideView) (id : ℕ) (v : WideView) → get_elem? views id ≡ some v → v.stake ≤ stakes views
-stakes-at [] id v at = absurd (some-ne-none v (sym at))
-stakes-at (u ∷ us) zero v at = let e : u.stake ≡ v.stake = ap (λ (x : WideView). x.stake) (some-injective u v at) in omega arith
-stakes-at (u ∷ us) (suc id) v at = let rest = stakes-at us id v at in omega arith
+use Rattle.shared_seats.proofs.Stakes.{stakes-at}
+use Rattle.wide_rule.specs.Rule.{WideView, IsPending, due, dues_of}
 
 -- what is owed, each cell weighed
 module _ (weigh : ℕ → ℕ) where
-  pub due_live : (v : WideView) → 0 < v.stake → due weigh v ≡ sum_by weigh v.own.owed
+  pub due_live : (v : WideView) → 0 < v.stake → due weigh v ≡ sum_by weigh v.dues.owed
   unfolding due
   due_live v live = grind (arith, common_steps)
 
@@ -23,21 +18,21 @@ module _ (weigh : ℕ → ℕ) where
   unfolding due
   due_spent v none = grind (arith, common_steps)
 
-  pub dues-set : (views : List WideView) (id : ℕ) (v w : WideView) → get_elem? views id ≡ some v → dues weigh (set views id w) + due weigh v ≡ dues weigh views + due weigh w
+  pub dues-set : (views : List WideView) (id : ℕ) (v w : WideView) → get_elem? views id ≡ some v → dues_of weigh (set views id w) + due weigh v ≡ dues_of weigh views + due weigh w
   dues-set [] id v w at = absurd (some-ne-none v (sym at))
   dues-set (u ∷ us) zero v w at = let e = ap (due weigh) (some-injective u v at) in omega arith
   dues-set (u ∷ us) (suc id) v w at = let rest = dues-set us id v w at in omega arith
 
-  pub dues-push : (views : List WideView) (w : WideView) → dues weigh (views ++ w ∷ []) ≡ dues weigh views + due weigh w
+  pub dues-push : (views : List WideView) (w : WideView) → dues_of weigh (views ++ w ∷ []) ≡ dues_of weigh views + due weigh w
   dues-push [] w = omega arith
   dues-push (u ∷ us) w = let rest = dues-push us w in omega arith
 
   -- a view that has all stakes owes all
-  no_dues : (views : List WideView) → stakes views ≡ 0 → dues weigh views ≡ 0
+  no_dues : (views : List WideView) → stakes views ≡ 0 → dues_of weigh views ≡ 0
   no_dues [] none = refl
   no_dues (u ∷ us) none = let here = due_spent u (omega arith) in let rest = no_dues us (omega arith) in omega arith
 
-  pub dues_alone : (views : List WideView) (id : ℕ) (v : WideView) → get_elem? views id ≡ some v → v.stake ≡ stakes views → dues weigh views ≡ due weigh v
+  pub dues_alone : (views : List WideView) (id : ℕ) (v : WideView) → get_elem? views id ≡ some v → v.stake ≡ stakes views → dues_of weigh views ≡ due weigh v
   dues_alone [] id v at all = absurd (some-ne-none v (sym at))
   dues_alone (u ∷ us) zero v at all =
       let same = some-injective u v at in let e : u.stake ≡ v.stake = ap (λ (x : WideView). x.stake) same in
@@ -51,13 +46,13 @@ cells_in None = []
 cells_in (Some c) = c ∷ []
 
 abbrev pending_live : WideView → List ℕ
-pending_live v = if v.stake == 0 then [] else cells_in v.own.pending
+pending_live v = if v.stake == 0 then [] else cells_in v.dues.pending
 
 abbrev pub all_pending : List WideView → List ℕ
 all_pending [] = []
 all_pending (v ∷ vs) = pending_live v ++ all_pending vs
 
-live_pending : (v : WideView) → 0 < v.stake → pending_live v ≡ cells_in v.own.pending
+live_pending : (v : WideView) → 0 < v.stake → pending_live v ≡ cells_in v.dues.pending
 live_pending v live = grind (arith, common_steps)
 
 pub pending_there : (views : List WideView) (c : ℕ) → IsPending views c → Contains (all_pending views) c
@@ -76,9 +71,9 @@ cells_few (Some c) = omega arith
 pending_few : (v : WideView) → length (pending_live v) ≤ v.stake
 pending_few v = by (v.stake == 0) refl
   where
-    by : (b : Bool) → (v.stake == 0) ≡ b → length (if b then [] else cells_in v.own.pending) ≤ v.stake
+    by : (b : Bool) → (v.stake == 0) ≡ b → length (if b then [] else cells_in v.dues.pending) ≤ v.stake
     by true is = omega arith
-    by false is = let some_stake : 0 < v.stake = grind (arith, common_steps) in let few = cells_few v.own.pending in omega arith
+    by false is = let some_stake : 0 < v.stake = grind (arith, common_steps) in let few = cells_few v.dues.pending in omega arith
 
 pub pending_most : (views : List WideView) → length (all_pending views) ≤ stakes views
 pending_most [] = omega arith

@@ -11,7 +11,7 @@ use Rattle.graph_rule.specs.Layout.{cell_on as flat_cell_on, is_last as is_flat_
 use Rattle.wide_words.specs.declared.spaces.WideCode.{WideCode}
 use Rattle.wide_words.specs.WideSpaces.{number}
 use Rattle.wide_words.specs.WideHistory.{WideWorldType, flat, spare_cells}
-use Rattle.wide_rule.specs.declared.own.Seen.{Seen}
+use Rattle.wide_rule.specs.declared.dues.Seen.{Seen}
 
 -- how many cells the table has: 32 more than the capacity, one for each seat that may be between its two exchanges
 abbrev pub cell_count : WideWorldType → ℕ

@@ -1,16 +1,16 @@
 -- The first seat of a wide graph, seats that are split off, and seats that join.
-use Rattle.std.specs.Prelude.{ℕ, ◌≡◌, List, [], ◌++◌, None, Contains}
+use Rattle.std.specs.Prelude.{ℕ, List, [], ◌++◌, None}
 use Rattle.crystal_cartan.specs.declared.types.Kind.TheVariants.{A}
 use Rattle.tensor_words.specs.Spaces.{SpaceType, tensor_space}
 use Rattle.graph_history.specs.declared.event.Event.{Event}
-use Rattle.shared_seats.specs.declared.view.Kept.{Kept}
-use Rattle.shared_seats.specs.Seats.{calls, first_view as seats_first, cut_left as seats_left, cut_right as seats_right, joined as seats_joined}
+use Rattle.shared_seats.specs.Seats.{HasCalls as has_calls, first_view as seats_first, cut_left as seats_left, cut_right as seats_right, joined as seats_joined}
 use Rattle.wide_words.specs.WideHistory.{WideWorldType}
-use Rattle.wide_rule.specs.declared.own.Own.{Own}
-use Rattle.wide_rule.specs.Rule.{WideView, caller_of, whole}
+use Rattle.wide_rule.specs.declared.dues.WideDues.{WideDues}
+use Rattle.graph_history.specs.History.{caller_of}
+use Rattle.wide_rule.specs.Rule.{WideView, whole}
 
 -- nothing is begun
-abbrev pub nothing : Own
+abbrev pub nothing : WideDues
 nothing = record { owed = []; seen = []; pending = None }
 
 -- the seat that comes with a new table: number 0, all other numbers to give, the whole stake
@@ -19,22 +19,21 @@ first_view w = seats_first whole nothing w
 
 -- a seat is split: the child takes the least unused numbers, calls under the first of them, and has begun nothing
 abbrev pub cut_left : ℕ → ℕ → WideView → WideView
-cut_left numbers stake v = seats_left numbers stake v
+cut_left numbers stake v = seats_left v.dues numbers stake v
 
 abbrev pub cut_right : ℕ → ℕ → WideView → WideView
 cut_right numbers stake v = seats_right nothing numbers stake v
 
 -- a seat joins another: what both owe and have seen is here; the second one has no pending cell
-abbrev pub both_own : Own → Own → Own
-both_own a b = record { owed = a.owed ++ b.owed; seen = a.seen ++ b.seen; pending = a.pending }
+abbrev pub both_dues : WideDues → WideDues → WideDues
+both_dues a b = record { owed = a.owed ++ b.owed; seen = a.seen ++ b.seen; pending = a.pending }
 
 abbrev pub joined : WideView → WideView → WideView
-joined v u = seats_joined both_own v u
+joined v u = seats_joined both_dues v u
 
 -- the calls of the view's number, and of each number that it keeps, are in this history just those that the view has
-pub record HasCalls (v : WideView) (h : List Event) : Type 0 where
-  pub mine : calls caller_of h v.number ≡ v.calls
-  pub kept : (m : Kept Event) → Contains v.kept m → calls caller_of h m.number ≡ m.calls
+abbrev pub HasCalls : WideView → List Event → Type 0
+HasCalls v h = has_calls caller_of v h
 
 -- the view of a seat that was joined away
 abbrev no_space : SpaceType
@@ -51,5 +50,5 @@ nobody = record {
   stake = 0;
   front = [];
   olds = [];
-  own = nothing;
+  dues = nothing;
 }

@@ -48,14 +48,14 @@ impl WideClosed {
 pub fn settle(graph: &WideGraph, seat: &WideSeat) -> WideClosed
     requires belongs { Belongs seat.now graph.now }
     requires alone { seat.now.view.stake ≡ whole }
-    requires idle { seat.now.view.own.pending ≡ None }
-    requires finished { All (IsWhole (flat seat.now.view.world) (state_of seat.now.view.front)) seat.now.view.own.owed }
+    requires idle { seat.now.view.dues.pending ≡ None }
+    requires finished { All (IsWhole (flat seat.now.view.world) (state_of seat.now.view.front)) seat.now.view.dues.owed }
     ensures world { result.world ≡ graph.now.world }
     ensures front { result.front ≡ seat.now.view.front }
     ensures closed { IsClosed (flat result.world) (state_of result.front) }
-    ensures counted { (weigh : ℕ → ℕ) → sum_by weigh seat.now.view.own.owed ≡ sum_by weigh (cells_of (state_of result.front)) }
+    ensures counted { (weigh : ℕ → ℕ) → sum_by weigh seat.now.view.dues.owed ≡ sum_by weigh (cells_of (state_of result.front)) }
 {
-    let _stake = seat.stake();
+    seat.reveal();
     WideClosed {
         world: Snapshot::of(graph.world()),
         front: seat.front(),

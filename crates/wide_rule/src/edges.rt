@@ -25,11 +25,11 @@ pub fn load_edge(graph: &WideGraph, seat: &mut WideSeat, cell: u32, arrow: Arrow
     requires there { HasSome (state_of seat.old.view.front) cell }
     requires arrow { IsArrow (flat seat.old.view.world).space arrow }
     ensures table { seat.new.table ≡ seat.old.table }
-    ensures view { Advances seat.old.view seat.new.view (glanced_acts cell arrow (target_in seat.new.view cell arrow)) seat.old.view.own }
+    ensures view { Advances seat.old.view seat.new.view (glanced_acts cell arrow (target_in seat.new.view cell arrow)) seat.old.view.dues }
     ensures word { result ≡ edge_word (target_in seat.new.view cell arrow) }
     ensures target { result < cell_count graph.now.world + 2 }
 {
-    let _stake = seat.stake();
+    seat.reveal();
     load_edge_as::<Brand>(graph, seat, cell, arrow)
 }
 
@@ -44,10 +44,10 @@ fn load_edge_as<J: AskedArrow>(
     requires there { HasSome (state_of seat.old.view.front) cell }
     requires arrow { IsArrow (flat seat.old.view.world).space arrow }
     ensures table { seat.new.table ≡ seat.old.table }
-    ensures view { Advances seat.old.view seat.new.view (glanced_acts cell arrow (target_in seat.new.view cell arrow)) seat.old.view.own }
+    ensures view { Advances seat.old.view seat.new.view (glanced_acts cell arrow (target_in seat.new.view cell arrow)) seat.old.view.dues }
     ensures word { result ≡ edge_word (target_in seat.new.view cell arrow) }
 {
-    let _stake = seat.stake();
+    seat.reveal();
     let index = word_index(graph, cell, arrow);
     graph.board.shared.load::<Glance<J>>(&mut seat.token, index)
 }
@@ -65,7 +65,7 @@ pub fn claim_edge(
     requires arrow { IsArrow (flat seat.old.view.world).space arrow }
     requires target { LeadsTo (flat seat.old.view.world) (state_of seat.old.view.front) cell arrow to }
     ensures table { seat.new.table ≡ seat.old.table }
-    ensures view { Advances seat.old.view seat.new.view (drawn_acts cell arrow to (result == 0)) seat.old.view.own }
+    ensures view { Advances seat.old.view seat.new.view (drawn_acts cell arrow to (result == 0)) seat.old.view.dues }
     ensures word { result ≢ 0 → result ≡ edge_word (Some to) }
 {
     claim_edge_as::<Brand>(graph, seat, cell, arrow, to)
@@ -83,10 +83,10 @@ fn claim_edge_as<J: AskedArrow>(
     requires arrow { IsArrow (flat seat.old.view.world).space arrow }
     requires target { LeadsTo (flat seat.old.view.world) (state_of seat.old.view.front) cell arrow to }
     ensures table { seat.new.table ≡ seat.old.table }
-    ensures view { Advances seat.old.view seat.new.view (drawn_acts cell arrow to (result == 0)) seat.old.view.own }
+    ensures view { Advances seat.old.view seat.new.view (drawn_acts cell arrow to (result == 0)) seat.old.view.dues }
     ensures word { result ≢ 0 → result ≡ edge_word (Some to) }
 {
-    let _stake = seat.stake();
+    seat.reveal();
     let index = word_index(graph, cell, arrow);
     let word = target_word(to);
     graph

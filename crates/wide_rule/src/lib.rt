@@ -22,10 +22,10 @@
 #![tactic(auto)]
 
 mod closed;
+mod dues;
 mod edges;
 mod front;
 mod graph;
-mod own;
 mod parting;
 mod plays;
 mod rule;
@@ -33,10 +33,12 @@ mod seat;
 mod steps;
 
 pub use closed::{WideClosed, settle};
+pub use dues::{Seen, WideDues};
 pub use edges::{claim_edge, load_edge};
 pub use front::WideFront;
 pub use graph::WideGraph;
-pub use own::{Own, Seen};
 pub use rule::{Running, WideView};
 pub use seat::WideSeat;
-pub use steps::{claim_first, claim_second, room_first, room_second, seek_first, seek_second};
+pub use steps::{
+    claim_first, claim_second, seek_first, seek_room_first, seek_room_second, seek_second,
+};

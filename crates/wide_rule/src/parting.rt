@@ -3,7 +3,7 @@ ghost use Rattle.std.specs.Prelude.{◌≡◌, ◌<◌, ◌≤◌, [], None};
 ghost use Rattle.shared_seats.specs.Seats.{IsPrefix};
 ghost use Rattle.wide_rule.specs.Rule.{IsKnown};
 ghost use Rattle.wide_rule.specs.Told.{Advances};
-ghost use Rattle.wide_rule.specs.Parting.{cut_left, cut_right, both_own, joined, HasCalls};
+ghost use Rattle.wide_rule.specs.Parting.{cut_left, cut_right, both_dues, joined, HasCalls};
 ghost use Rattle.wide_rule.specs.Values.{Belongs};
 
 use crate::graph::WideGraph;
@@ -19,7 +19,7 @@ impl WideSeat {
         requires belongs { Belongs self.old graph.now }
         requires numbers { (1 ≤ numbers) × (numbers ≤ self.old.view.left) }
         requires stake { (1 ≤ stake) × (stake < self.old.view.stake) }
-        requires idle { self.old.view.own.pending ≡ None }
+        requires idle { self.old.view.dues.pending ≡ None }
         ensures table { (self.new.table ≡ self.old.table) × (result.table ≡ self.old.table) }
         ensures parent { self.new.view ≡ cut_left numbers stake self.old.view }
         ensures child { result.view ≡ cut_right numbers stake self.old.view }
@@ -58,10 +58,10 @@ impl WideSeat {
     pub fn join(&mut self, graph: &WideGraph, other: WideSeat)
         requires belongs { Belongs self.old graph.now }
         requires other_belongs { Belongs other graph.now }
-        requires idle { self.old.view.own.pending ≡ None }
-        requires other_idle { other.view.own.pending ≡ None }
+        requires idle { self.old.view.dues.pending ≡ None }
+        requires other_idle { other.view.dues.pending ≡ None }
         ensures table { self.new.table ≡ self.old.table }
-        ensures view { Advances (joined self.old.view other.view) self.new.view [] (both_own self.old.view.own other.view.own) }
+        ensures view { Advances (joined self.old.view other.view) self.new.view [] (both_dues self.old.view.dues other.view.dues) }
         ensures front { IsPrefix self.old.view.front self.new.view.front × IsPrefix other.view.front self.new.view.front }
         ensures calls { HasCalls self.old.view self.new.view.front × HasCalls other.view self.new.view.front }
     {
@@ -82,9 +82,9 @@ impl WideSeat {
     /// with each front that was joined in.
     pub fn meet(&mut self, graph: &WideGraph)
         requires belongs { Belongs self.old graph.now }
-        requires idle { self.old.view.own.pending ≡ None }
+        requires idle { self.old.view.dues.pending ≡ None }
         ensures table { self.new.table ≡ self.old.table }
-        ensures view { Advances self.old.view self.new.view [] self.old.view.own }
+        ensures view { Advances self.old.view self.new.view [] self.old.view.dues }
     {
         let _found = graph.board.shared.load::<Meet>(&mut self.token, 0);
     }

@@ -5,7 +5,7 @@ ghost use Rattle.crystal_cartan.specs.declared.types.Arrow.{Arrow as ArrowType};
 ghost use Rattle.graph_history.specs.declared.event.Origin.{Origin as OriginType};
 ghost use Rattle.graph_history.specs.declared.event.Origin.TheVariants.{Root};
 ghost use Rattle.wide_words.specs.declared.spaces.WideCode.{WideCode as CodeType};
-ghost use Rattle.wide_rule.specs.Told.{first_sought, second_sought, first_roomed, second_roomed, first_claimed, second_claimed, glanced, drawn, met};
+ghost use Rattle.wide_rule.specs.Told.{first_sought, second_sought, first_sought_empty, second_sought_empty, first_claimed, second_claimed, glanced, drawn, meets};
 ghost use Rattle.wide_rule.specs.Parting.{cut_left, cut_right, joined, nobody};
 
 use crate::rule::WideView;
@@ -48,21 +48,21 @@ impl<J: Asked> Play<(), WideView> for SeekSecond<J> {
 }
 
 /// A load of a first word in search of a place for a pair.
-pub(crate) struct RoomFirst<J> {
+pub(crate) struct SeekRoomFirst<J> {
     of: PhantomData<J>,
 }
 
-impl<J: Asked> Play<(), WideView> for RoomFirst<J> {
-    ghost then = { first_roomed J.cell J.code };
+impl<J: Asked> Play<(), WideView> for SeekRoomFirst<J> {
+    ghost then = { first_sought_empty J.cell J.code };
 }
 
 /// A load of a second word in search of a place for a pair.
-pub(crate) struct RoomSecond<J> {
+pub(crate) struct SeekRoomSecond<J> {
     of: PhantomData<J>,
 }
 
-impl<J: Asked> Play<(), WideView> for RoomSecond<J> {
-    ghost then = { second_roomed J.cell J.code };
+impl<J: Asked> Play<(), WideView> for SeekRoomSecond<J> {
+    ghost then = { second_sought_empty J.cell J.code };
 }
 
 /// An exchange of a first word from 0 to that of a pair.
@@ -122,7 +122,7 @@ impl<J: AskedArrow> Play<(), WideView> for DrawArrow<J> {
 pub(crate) struct Meet;
 
 impl Play<(), WideView> for Meet {
-    ghost then = { met };
+    ghost then = { meets };
 }
 
 /// What a seat that is split off gets.

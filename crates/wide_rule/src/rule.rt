@@ -1,12 +1,12 @@
 //! The rule of the table.
-use crate::own::Own;
+use crate::dues::WideDues;
 use atomic_table::TableRule;
 use graph_history::Event;
 use shared_seats::View;
 use wide_words::WideWorld;
 
 /// What a seat of a wide graph knows.
-pub type WideView = View<WideWorld, Event, Own>;
+pub type WideView = View<WideWorld, Event, WideDues>;
 
 /// The rule that holds between any two steps: specs/Rule.antt says it.
 pub struct Running;

@@ -6,11 +6,13 @@ ghost use Rattle.graph_history.specs.History.{state_of, IsOrigin};
 ghost use Rattle.wide_words.specs.WideSpaces.{IsWide, number};
 ghost use Rattle.wide_words.specs.WideHistory.{flat};
 ghost use Rattle.wide_rule.specs.Layout.{cell_count, HasSeen, IsSearched};
-ghost use Rattle.wide_rule.specs.Told.{Advances, seek_first_acts, seek_second_acts, room_first_acts, room_second_acts, claim_second_acts, saw, tried, finished, IsAsSeen, second_seen};
+ghost use Rattle.wide_rule.specs.Told.{Advances, seek_first_acts, seek_second_acts, seek_room_first_acts, seek_room_second_acts, claim_second_acts, saw, tried, finished, IsAsSeen, second_seen};
 ghost use Rattle.wide_rule.specs.Values.{Belongs};
 
 use crate::graph::WideGraph;
-use crate::plays::{Asked, ClaimFirst, ClaimSecond, RoomFirst, RoomSecond, SeekFirst, SeekSecond};
+use crate::plays::{
+    Asked, ClaimFirst, ClaimSecond, SeekFirst, SeekRoomFirst, SeekRoomSecond, SeekSecond,
+};
 use crate::seat::WideSeat;
 use graph_history::Origin;
 use std::marker::Brand;
@@ -23,9 +25,9 @@ pub fn seek_first(graph: &WideGraph, seat: &mut WideSeat, cell: u32, code: WideC
     requires belongs { Belongs seat.old graph.now }
     requires cell { cell < cell_count graph.now.world }
     requires code { IsWide seat.old.view.world.space code }
-    requires searched { IsSearched seat.old.view.world (state_of seat.old.view.front) seat.old.view.own.seen code cell }
+    requires searched { IsSearched seat.old.view.world (state_of seat.old.view.front) seat.old.view.dues.seen code cell }
     ensures table { seat.new.table ≡ seat.old.table }
-    ensures view { Advances seat.old.view seat.new.view (seek_first_acts seat.old.view.world cell code result) (saw cell result seat.old.view.own) }
+    ensures view { Advances seat.old.view seat.new.view (seek_first_acts seat.old.view.world cell code result) (saw cell result seat.old.view.dues) }
     ensures word { IsAsSeen seat.old.view cell result }
 {
     seek_first_as::<Brand>(graph, seat, cell, code)
@@ -36,9 +38,9 @@ fn seek_first_as<J: Asked>(graph: &WideGraph, seat: &mut WideSeat, cell: u32, co
     requires belongs { Belongs seat.old graph.now }
     requires cell { cell < cell_count graph.now.world }
     requires code { IsWide seat.old.view.world.space code }
-    requires searched { IsSearched seat.old.view.world (state_of seat.old.view.front) seat.old.view.own.seen code cell }
+    requires searched { IsSearched seat.old.view.world (state_of seat.old.view.front) seat.old.view.dues.seen code cell }
     ensures table { seat.new.table ≡ seat.old.table }
-    ensures view { Advances seat.old.view seat.new.view (seek_first_acts seat.old.view.world cell code result) (saw cell result seat.old.view.own) }
+    ensures view { Advances seat.old.view seat.new.view (seek_first_acts seat.old.view.world cell code result) (saw cell result seat.old.view.dues) }
     ensures word { IsAsSeen seat.old.view cell result }
 {
     graph
@@ -54,10 +56,10 @@ pub fn seek_second(graph: &WideGraph, seat: &mut WideSeat, cell: u32, code: Wide
     requires belongs { Belongs seat.old graph.now }
     requires cell { cell < cell_count graph.now.world }
     requires code { IsWide seat.old.view.world.space code }
-    requires searched { IsSearched seat.old.view.world (state_of seat.old.view.front) seat.old.view.own.seen code cell }
-    requires half { HasSeen seat.old.view.own.seen cell (code.high + 1) }
+    requires searched { IsSearched seat.old.view.world (state_of seat.old.view.front) seat.old.view.dues.seen code cell }
+    requires half { HasSeen seat.old.view.dues.seen cell (code.high + 1) }
     ensures table { seat.new.table ≡ seat.old.table }
-    ensures view { Advances seat.old.view seat.new.view (seek_second_acts seat.old.view.world cell code result) seat.old.view.own }
+    ensures view { Advances seat.old.view seat.new.view (seek_second_acts seat.old.view.world cell code result) seat.old.view.dues }
     ensures word { result ≡ second_seen seat.new.view cell }
 {
     seek_second_as::<Brand>(graph, seat, cell, code)
@@ -73,10 +75,10 @@ fn seek_second_as<J: Asked>(
     requires belongs { Belongs seat.old graph.now }
     requires cell { cell < cell_count graph.now.world }
     requires code { IsWide seat.old.view.world.space code }
-    requires searched { IsSearched seat.old.view.world (state_of seat.old.view.front) seat.old.view.own.seen code cell }
-    requires half { HasSeen seat.old.view.own.seen cell (code.high + 1) }
+    requires searched { IsSearched seat.old.view.world (state_of seat.old.view.front) seat.old.view.dues.seen code cell }
+    requires half { HasSeen seat.old.view.dues.seen cell (code.high + 1) }
     ensures table { seat.new.table ≡ seat.old.table }
-    ensures view { Advances seat.old.view seat.new.view (seek_second_acts seat.old.view.world cell code result) seat.old.view.own }
+    ensures view { Advances seat.old.view seat.new.view (seek_second_acts seat.old.view.world cell code result) seat.old.view.dues }
     ensures word { result ≡ second_seen seat.new.view cell }
 {
     graph
@@ -87,7 +89,7 @@ fn seek_second_as<J: Asked>(
 
 /// The first word of a cell in search of a place for a pair. The event is `Spent` where it is another half and the cell is
 /// the last of the path; else there is none.
-pub fn room_first(
+pub fn seek_room_first(
     graph: &WideGraph,
     seat: &mut WideSeat,
     cell: u32,
@@ -97,16 +99,16 @@ pub fn room_first(
     requires belongs { Belongs seat.old graph.now }
     requires cell { cell < cell_count graph.now.world }
     requires code { IsWide seat.old.view.world.space code }
-    requires searched { IsSearched seat.old.view.world (state_of seat.old.view.front) seat.old.view.own.seen code cell }
+    requires searched { IsSearched seat.old.view.world (state_of seat.old.view.front) seat.old.view.dues.seen code cell }
     requires origin { IsOrigin (flat seat.old.view.world) (state_of seat.old.view.front) (number seat.old.view.world.space code) origin }
     ensures table { seat.new.table ≡ seat.old.table }
-    ensures view { Advances seat.old.view seat.new.view (room_first_acts seat.old.view.world cell code result) (saw cell result seat.old.view.own) }
+    ensures view { Advances seat.old.view seat.new.view (seek_room_first_acts seat.old.view.world cell code result) (saw cell result seat.old.view.dues) }
     ensures word { IsAsSeen seat.old.view cell result }
 {
-    room_first_as::<Brand>(graph, seat, cell, code, origin)
+    seek_room_first_as::<Brand>(graph, seat, cell, code, origin)
 }
 
-fn room_first_as<J: Asked>(
+fn seek_room_first_as<J: Asked>(
     graph: &WideGraph,
     seat: &mut WideSeat,
     cell: u32,
@@ -117,21 +119,21 @@ fn room_first_as<J: Asked>(
     requires belongs { Belongs seat.old graph.now }
     requires cell { cell < cell_count graph.now.world }
     requires code { IsWide seat.old.view.world.space code }
-    requires searched { IsSearched seat.old.view.world (state_of seat.old.view.front) seat.old.view.own.seen code cell }
+    requires searched { IsSearched seat.old.view.world (state_of seat.old.view.front) seat.old.view.dues.seen code cell }
     requires origin { IsOrigin (flat seat.old.view.world) (state_of seat.old.view.front) (number seat.old.view.world.space code) _origin }
     ensures table { seat.new.table ≡ seat.old.table }
-    ensures view { Advances seat.old.view seat.new.view (room_first_acts seat.old.view.world cell code result) (saw cell result seat.old.view.own) }
+    ensures view { Advances seat.old.view seat.new.view (seek_room_first_acts seat.old.view.world cell code result) (saw cell result seat.old.view.dues) }
     ensures word { IsAsSeen seat.old.view cell result }
 {
     graph
         .board
         .shared
-        .load::<RoomFirst<J>>(&mut seat.token, 1 + 2 * cell as usize)
+        .load::<SeekRoomFirst<J>>(&mut seat.token, 1 + 2 * cell as usize)
 }
 
 /// The second word of a cell in search of a place for a pair, whose first half stands at the cell. The event is `Met` where
 /// the pair is found, `Spent` where the word is another half and the cell is the last of the path; else there is none.
-pub fn room_second(
+pub fn seek_room_second(
     graph: &WideGraph,
     seat: &mut WideSeat,
     cell: u32,
@@ -141,17 +143,17 @@ pub fn room_second(
     requires belongs { Belongs seat.old graph.now }
     requires cell { cell < cell_count graph.now.world }
     requires code { IsWide seat.old.view.world.space code }
-    requires searched { IsSearched seat.old.view.world (state_of seat.old.view.front) seat.old.view.own.seen code cell }
-    requires half { HasSeen seat.old.view.own.seen cell (code.high + 1) }
+    requires searched { IsSearched seat.old.view.world (state_of seat.old.view.front) seat.old.view.dues.seen code cell }
+    requires half { HasSeen seat.old.view.dues.seen cell (code.high + 1) }
     requires origin { IsOrigin (flat seat.old.view.world) (state_of seat.old.view.front) (number seat.old.view.world.space code) origin }
     ensures table { seat.new.table ≡ seat.old.table }
-    ensures view { Advances seat.old.view seat.new.view (room_second_acts seat.old.view.world cell code result) seat.old.view.own }
+    ensures view { Advances seat.old.view seat.new.view (seek_room_second_acts seat.old.view.world cell code result) seat.old.view.dues }
     ensures word { result ≡ second_seen seat.new.view cell }
 {
-    room_second_as::<Brand>(graph, seat, cell, code, origin)
+    seek_room_second_as::<Brand>(graph, seat, cell, code, origin)
 }
 
-fn room_second_as<J: Asked>(
+fn seek_room_second_as<J: Asked>(
     graph: &WideGraph,
     seat: &mut WideSeat,
     cell: u32,
@@ -162,17 +164,17 @@ fn room_second_as<J: Asked>(
     requires belongs { Belongs seat.old graph.now }
     requires cell { cell < cell_count graph.now.world }
     requires code { IsWide seat.old.view.world.space code }
-    requires searched { IsSearched seat.old.view.world (state_of seat.old.view.front) seat.old.view.own.seen code cell }
-    requires half { HasSeen seat.old.view.own.seen cell (code.high + 1) }
+    requires searched { IsSearched seat.old.view.world (state_of seat.old.view.front) seat.old.view.dues.seen code cell }
+    requires half { HasSeen seat.old.view.dues.seen cell (code.high + 1) }
     requires origin { IsOrigin (flat seat.old.view.world) (state_of seat.old.view.front) (number seat.old.view.world.space code) _origin }
     ensures table { seat.new.table ≡ seat.old.table }
-    ensures view { Advances seat.old.view seat.new.view (room_second_acts seat.old.view.world cell code result) seat.old.view.own }
+    ensures view { Advances seat.old.view seat.new.view (seek_room_second_acts seat.old.view.world cell code result) seat.old.view.dues }
     ensures word { result ≡ second_seen seat.new.view cell }
 {
     graph
         .board
         .shared
-        .load::<RoomSecond<J>>(&mut seat.token, 2 + 2 * cell as usize)
+        .load::<SeekRoomSecond<J>>(&mut seat.token, 2 + 2 * cell as usize)
 }
 
 /// Claims a cell for the first half of a pair if the cell is empty, and answers the first word that was there before. There
@@ -187,11 +189,11 @@ pub fn claim_first(
     requires belongs { Belongs seat.old graph.now }
     requires cell { cell < cell_count graph.now.world }
     requires code { IsWide seat.old.view.world.space code }
-    requires searched { IsSearched seat.old.view.world (state_of seat.old.view.front) seat.old.view.own.seen code cell }
+    requires searched { IsSearched seat.old.view.world (state_of seat.old.view.front) seat.old.view.dues.seen code cell }
     requires origin { IsOrigin (flat seat.old.view.world) (state_of seat.old.view.front) (number seat.old.view.world.space code) origin }
-    requires idle { seat.old.view.own.pending ≡ None }
+    requires idle { seat.old.view.dues.pending ≡ None }
     ensures table { seat.new.table ≡ seat.old.table }
-    ensures view { Advances seat.old.view seat.new.view [] (tried cell code result seat.old.view.own) }
+    ensures view { Advances seat.old.view seat.new.view [] (tried cell code result seat.old.view.dues) }
     ensures word { IsAsSeen seat.old.view cell result }
 {
     claim_first_as::<Brand>(graph, seat, cell, code, origin)
@@ -208,14 +210,14 @@ fn claim_first_as<J: Asked>(
     requires belongs { Belongs seat.old graph.now }
     requires cell { cell < cell_count graph.now.world }
     requires code { IsWide seat.old.view.world.space code }
-    requires searched { IsSearched seat.old.view.world (state_of seat.old.view.front) seat.old.view.own.seen code cell }
+    requires searched { IsSearched seat.old.view.world (state_of seat.old.view.front) seat.old.view.dues.seen code cell }
     requires origin { IsOrigin (flat seat.old.view.world) (state_of seat.old.view.front) (number seat.old.view.world.space code) _origin }
-    requires idle { seat.old.view.own.pending ≡ None }
+    requires idle { seat.old.view.dues.pending ≡ None }
     ensures table { seat.new.table ≡ seat.old.table }
-    ensures view { Advances seat.old.view seat.new.view [] (tried cell code result seat.old.view.own) }
+    ensures view { Advances seat.old.view seat.new.view [] (tried cell code result seat.old.view.dues) }
     ensures word { IsAsSeen seat.old.view cell result }
 {
-    let _stake = seat.stake();
+    seat.reveal();
     graph
         .board
         .shared
@@ -235,11 +237,11 @@ pub fn claim_second(
     requires belongs { Belongs seat.old graph.now }
     requires cell { cell < cell_count graph.now.world }
     requires code { IsWide seat.old.view.world.space code }
-    requires searched { IsSearched seat.old.view.world (state_of seat.old.view.front) seat.old.view.own.seen code cell }
-    requires half { HasSeen seat.old.view.own.seen cell (code.high + 1) }
+    requires searched { IsSearched seat.old.view.world (state_of seat.old.view.front) seat.old.view.dues.seen code cell }
+    requires half { HasSeen seat.old.view.dues.seen cell (code.high + 1) }
     requires origin { IsOrigin (flat seat.old.view.world) (state_of seat.old.view.front) (number seat.old.view.world.space code) origin }
     ensures table { seat.new.table ≡ seat.old.table }
-    ensures view { Advances seat.old.view seat.new.view (claim_second_acts seat.old.view.world cell code origin result) (finished cell result seat.old.view.own) }
+    ensures view { Advances seat.old.view seat.new.view (claim_second_acts seat.old.view.world cell code origin result) (finished cell result seat.old.view.dues) }
     ensures word { result ≢ 0 → result ≡ second_seen seat.new.view cell }
 {
     claim_second_as::<Brand>(graph, seat, cell, code, origin)
@@ -256,14 +258,14 @@ fn claim_second_as<J: Asked>(
     requires belongs { Belongs seat.old graph.now }
     requires cell { cell < cell_count graph.now.world }
     requires code { IsWide seat.old.view.world.space code }
-    requires searched { IsSearched seat.old.view.world (state_of seat.old.view.front) seat.old.view.own.seen code cell }
-    requires half { HasSeen seat.old.view.own.seen cell (code.high + 1) }
+    requires searched { IsSearched seat.old.view.world (state_of seat.old.view.front) seat.old.view.dues.seen code cell }
+    requires half { HasSeen seat.old.view.dues.seen cell (code.high + 1) }
     requires origin { IsOrigin (flat seat.old.view.world) (state_of seat.old.view.front) (number seat.old.view.world.space code) _origin }
     ensures table { seat.new.table ≡ seat.old.table }
-    ensures view { Advances seat.old.view seat.new.view (claim_second_acts seat.old.view.world cell code _origin result) (finished cell result seat.old.view.own) }
+    ensures view { Advances seat.old.view seat.new.view (claim_second_acts seat.old.view.world cell code _origin result) (finished cell result seat.old.view.dues) }
     ensures word { result ≢ 0 → result ≡ second_seen seat.new.view cell }
 {
-    let _stake = seat.stake();
+    seat.reveal();
     graph
         .board
         .shared

@@ -13,9 +13,9 @@ abbrev Above : ℕ → List ℕ → Type 0
 Above x [] = ⊤
 Above x (y ∷ ys) = (x < y) × Above x ys
 
-abbrev Rises : List ℕ → Type 0
-Rises [] = ⊤
-Rises (y ∷ ys) = Above y ys × Rises ys
+abbrev Ascends : List ℕ → Type 0
+Ascends [] = ⊤
+Ascends (y ∷ ys) = Above y ys × Ascends ys
 
 -- no number of the list is x
 abbrev HasNone : ℕ → List ℕ → Type 0
@@ -71,28 +71,28 @@ none_in_order : (y : ℕ) (xs : List ℕ) → HasNone y xs → HasNone y (in_ord
 none_in_order y [] h = tt
 none_in_order y (x ∷ xs) h = none_placed x y (in_order xs) h.0 (none_in_order y xs h.1)
 
-rises_placed : (x : ℕ) (ys : List ℕ) → HasNone x ys → Rises ys → Rises (placed x ys)
-rises_placed x [] none h = (tt, tt)
-rises_placed x (y ∷ ys) none h = elim (cases_lt x y) [
+ascends_placed : (x : ℕ) (ys : List ℕ) → HasNone x ys → Ascends ys → Ascends (placed x ys)
+ascends_placed x [] none h = (tt, tt)
+ascends_placed x (y ∷ ys) none h = elim (cases_lt x y) [
   | inl before ↦ rw (placed_before x y ys before) ((before, above_later x y ys before h.0), h)
   | inr least ↦
       let other : nat_eq x y ≡ false = none.0 in
       let less : y < x = grind (arith, nat_tests) in
-      rw (placed_behind x y ys least) (above_placed x y ys less h.0, rises_placed x ys none.1 h.1)
+      rw (placed_behind x y ys least) (above_placed x y ys less h.0, ascends_placed x ys none.1 h.1)
 ]
 
-rises_in_order : (xs : List ℕ) → IsDistinct nat_eq xs → Rises (in_order xs)
-rises_in_order [] distinct = tt
-rises_in_order (x ∷ xs) distinct =
-    rises_placed x (in_order xs) (none_in_order x xs (IsDistinct-head nat_eq x xs distinct)) (rises_in_order xs (IsDistinct-tail nat_eq x xs distinct))
+ascends_in_order : (xs : List ℕ) → IsDistinct nat_eq xs → Ascends (in_order xs)
+ascends_in_order [] distinct = tt
+ascends_in_order (x ∷ xs) distinct =
+    ascends_placed x (in_order xs) (none_in_order x xs (IsDistinct-head nat_eq x xs distinct)) (ascends_in_order xs (IsDistinct-tail nat_eq x xs distinct))
 
-increasing : (xs : List ℕ) → Rises xs → IsStrictlyIncreasing xs
-increasing [] h k within = absurd (omega arith)
-increasing (x ∷ []) h k within = absurd (omega arith)
-increasing (x ∷ y ∷ ys) h zero within = h.0.0
-increasing (x ∷ y ∷ ys) h (suc k) within =
+ascending : (xs : List ℕ) → Ascends xs → IsStrictlyIncreasing xs
+ascending [] h k within = absurd (omega arith)
+ascending (x ∷ []) h k within = absurd (omega arith)
+ascending (x ∷ y ∷ ys) h zero within = h.0.0
+ascending (x ∷ y ∷ ys) h (suc k) within =
     let next : suc k + 1 ≡ suc (k + 1) = omega arith in
-    subst (λ (n : ℕ). slice_index (y ∷ ys) k < slice_index (x ∷ y ∷ ys) n) (sym next) (increasing (y ∷ ys) h.1 k (omega arith))
+    subst (λ (n : ℕ). slice_index (y ∷ ys) k < slice_index (x ∷ y ∷ ys) n) (sym next) (ascending (y ∷ ys) h.1 k (omega arith))
 
 pub in_order_increases : (xs : List ℕ) → IsDistinct nat_eq xs → IsStrictlyIncreasing (in_order xs)
-in_order_increases xs distinct = increasing (in_order xs) (rises_in_order xs distinct)
+in_order_increases xs distinct = ascending (in_order xs) (ascends_in_order xs distinct)

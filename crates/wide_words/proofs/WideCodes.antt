@@ -5,10 +5,11 @@ use Rattle.std.proofs.Math.Nat.{div-add-mod'}
 use Rattle.std.proofs.lemmas.Bool.{cases_lt, cases_eq}
 use Rattle.std.proofs.lemmas.List.{map-append}
 use Rattle.std.proofs.lemmas.Nat.{div-mul-add, mod-mul-add, div_below, mod_below}
+use Rattle.list_facts.proofs.Numbers.{in_row}
 use Rattle.crystal_cartan.specs.Types.{CartanType}
 use Rattle.tensor_words.specs.Spaces.{HasFactors, tensor_space, has_factor, base_size, sizes, size, product}
 use Rattle.tensor_words.specs.Codes.{AreDigits, code, word, word_of}
-use Rattle.tensor_words.proofs.Digits.{row_below, word-code, code-word, AreDigits-word}
+use Rattle.tensor_words.proofs.Digits.{word-code, code-word, AreDigits-word}
 use Rattle.tensor_words.proofs.Products.{digits_joined, product_joined, code_joined, factors_joined}
 use Rattle.tensor_words.proofs.Sizes.{product_positive}
 use Rattle.wide_words.specs.declared.spaces.WideCode.{WideCode}
@@ -34,7 +35,7 @@ module _ (s : WideSpaceType) (space : IsWideSpace s) where
 
   -- the word of a pair
   pub number_below : (c : WideCode) → IsWide s c → number s c < size (whole s)
-  number_below c is = omega (arith, size_whole, row_below c.high (size s.high) (size s.low) c.low is.high is.low)
+  number_below c is = omega (arith, size_whole, in_row c.high (size s.high) (size s.low) c.low is.high is.low)
 
   pub wide_word : (c : WideCode) → IsWide s c → word_of (whole s) (number s c) ≡ word_of s.high c.high ++ word_of s.low c.low
   unfolding word_of
@@ -95,7 +96,7 @@ pairs_ascend s c d is too = (λ below. pairs (cases_lt c.high d.high) below, num
     same_high same below = let rows : c.high * size s.low ≡ d.high * size s.low = ap (λ (k : ℕ). k * size s.low) same in omega arith
 
     not_above : d.high < c.high → number s c < number s d → ⊥
-    not_above above below = let rows = row_below d.high c.high (size s.low) d.low above too.low in omega arith
+    not_above above below = let rows = in_row d.high c.high (size s.low) d.low above too.low in omega arith
 
     equal : (c.high ≡ d.high) ⊎ (c.high ≡ d.high → ⊥) → d.high ≤ c.high → number s c < number s d → (c.high < d.high) ⊎ ((c.high ≡ d.high) × (c.low < d.low))
     equal (inl same) least below = inr (same, same_high same below)
@@ -106,7 +107,7 @@ pairs_ascend s c d is too = (λ below. pairs (cases_lt c.high d.high) below, num
     pairs (inr least) below = equal (cases_eq c.high d.high) least below
 
     numbers : (c.high < d.high) ⊎ ((c.high ≡ d.high) × (c.low < d.low)) → number s c < number s d
-    numbers (inl less) = let rows = row_below c.high d.high (size s.low) c.low less is.low in omega arith
+    numbers (inl less) = let rows = in_row c.high d.high (size s.low) c.low less is.low in omega arith
     numbers (inr (same, less)) = let rows : c.high * size s.low ≡ d.high * size s.low = ap (λ (k : ℕ). k * size s.low) same in omega arith
 
 -- the factors of each half, and of the whole space, are those of the type of the high space

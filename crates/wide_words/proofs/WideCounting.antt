@@ -13,12 +13,13 @@ use Rattle.graph_history.specs.History.{State, state_of, HasVertex}
 use Rattle.graph_history.specs.Laws.{IsCodeList}
 use Rattle.graph_history.proofs.VertexLists.{keys, length-keys, key_at, has_key, distinct_keys, vertex_in}
 use Rattle.graph_history.proofs.SoundStates.{IsSound}
+use Rattle.graph_history.proofs.Components.{code}
 use Rattle.wide_words.specs.WideSpaces.{whole}
 use Rattle.wide_words.specs.WideHistory.{flat}
 use Rattle.wide_words.specs.WideCounts.{arrows_at, arrow_sum}
 use Rattle.wide_words.specs.WideLaws.{WideClosedIsCounted, CountsAreUnique}
 use Rattle.wide_words.proofs.Rising.{in_order, in_order_permutes, in_order_increases}
-use Rattle.wide_words.proofs.WideSound.{code, wide_sound, wide_closed_is_components, reached_cells}
+use Rattle.wide_words.proofs.WideSound.{wide_sound, wide_closed_is_components, reached_cells}
 
 -- a sum over what a list is mapped to
 pub sum_mapped : {X Y : Type 0} (f : Y → ℕ) (g : X → Y) (xs : List X) → sum_by f (map g xs) ≡ sum_by (λ x. f (g x)) xs

@@ -10,16 +10,16 @@ use Rattle.std.proofs.lemmas.Map.Views.{list_any-from_Contains, Contains-from_an
 use Rattle.tensor_words.specs.Worlds.{WorldType}
 use Rattle.tensor_words.specs.Reach.{IsReached, Outnumber}
 use Rattle.graph_history.specs.declared.event.Origin.{Origin}
-use Rattle.graph_history.specs.declared.event.Origin.TheVariants.{Root, By}
 use Rattle.graph_history.specs.declared.event.Act.{Act}
 use Rattle.graph_history.specs.declared.event.Act.TheVariants.{Added, Met, Missed, Spent, Drew, Saw, Blank, Owed, Settled, Tally}
 use Rattle.graph_history.specs.declared.event.Event.{Event}
-use Rattle.graph_history.specs.History.{Vertex, State, empty_state, after, state_from, state_of, HasVertex, IsOrigin, unfinished}
-use Rattle.graph_history.specs.Laws.{Stays, IsReachedIn}
-use Rattle.graph_history.proofs.Histories.{around, state_from-append}
+use Rattle.graph_history.specs.History.{Vertex, State, empty_state, after, state_from, state_of, HasVertex, unfinished}
+use Rattle.graph_history.specs.Laws.{IsReachedIn}
+use Rattle.graph_history.proofs.Histories.{around, state_from-append, vertices_from}
 use Rattle.graph_history.proofs.VertexLists.{keys, length-keys, key_at, has_key, no_key, AreApart, distinct_keys, vertex_in}
-use Rattle.graph_history.proofs.SoundStates.{IsSound, sound_empty, sound_added, sound_drew, reached_stays, reached_more, target_stays, root_walk}
-use Rattle.graph_history.proofs.Components.{closed_walk}
+use Rattle.graph_history.proofs.SoundStates.{IsSound, sound_empty, sound_added, sound_drew, sound_debts}
+use Rattle.graph_history.proofs.Components.{closed_walk, code, reached_from, origin_reached}
+use Rattle.graph_history.proofs.Owing.{origin_debts}
 use Rattle.wide_words.specs.WideHistory.{WideWorldType, flat, counted, MayAddWide, MaySpendWide, IsWideAct, WideLegalFrom, IsWideLegal}
 use Rattle.wide_words.specs.WideLaws.{WideStatesAreSimple, VerticesArePairs, WideVerticesAreReached, WideClosedIsReached, WideClosedIsComponents, WideSpentOutnumbers, WideVerticesFit, WideClosedFits}
 use Rattle.wide_words.proofs.WideCodes.{one_pair}
@@ -58,38 +58,7 @@ wide_rest w f g p = wide_rest_from w empty_state f g p
 pub wide_at : (w : WideWorldType) (f : List Event) (e : Event) (g : List Event) → IsWideLegal w (f ++ e ∷ g) → IsWideAct w (state_of f) e.act
 wide_at w f e g p = (wide_rest w f (e ∷ g) p).0
 
--- debts
 module _ (w : WorldType) where
-  pub origin_debts : (s : State) (n x : ℕ) (o : Origin) → IsOrigin w s x o → IsOrigin w (record s { debts = n }) x o
-  origin_debts s n x Root h = h
-  origin_debts s n x (By c a) h = h
-
-  pub sound_debts : (s : State) (n : ℕ) → IsSound w s → IsSound w (record s { debts = n })
-  sound_debts s n S = record {
-    simple = record {
-      vertex = S.simple.vertex;
-      cells = S.simple.cells;
-      codes = S.simple.codes;
-      drawn = S.simple.drawn;
-      arrows = S.simple.arrows;
-      targets = λ c a t h. let old = S.simple.targets c a t h in (old.0, old.1, target_stays w s (record s { debts = n }) a old.0 t still old.2);
-    };
-    below = S.below;
-    words = S.words;
-    apart = S.apart;
-    reached = λ c x h. reached_stays w s (record s { debts = n }) x still (S.reached c x h);
-  }
-    where
-      still : Stays s (record s { debts = n })
-      still = record { vertices = λ c x h. h; arrows = λ c a to h. h }
-
-  pub reached_from : (s : State) (x : ℕ) → IsReachedIn w s x → IsReached w x
-  reached_from s x r = record { root = r.root; rooted = r.rooted; path = r.path; arrows = r.arrows; leads = r.leads }
-
-  pub origin_reached : (s : State) (x : ℕ) (o : Origin) → IsSound w s → IsOrigin w s x o → IsReached w x
-  origin_reached s x Root S rooted = record { root = x; rooted = rooted; path = []; arrows = tt; leads = root_walk w.space x }
-  origin_reached s x (By c a) S (y, there, is, leads) = reached_from s x (reached_more w s a x y (S.reached c y there) is leads)
-
   -- the words reached do not depend on the number of cells
   pub reached_cells : (n x : ℕ) → IsReached w x → IsReached (record w { cells = n }) x
   reached_cells n x r = record { root = r.root; rooted = r.rooted; path = r.path; arrows = r.arrows; leads = r.leads }
@@ -152,19 +121,16 @@ wide_closed_is_components w h codes legal closed roots listed = record {
 }
 
 -- the first vertices of a list
-pub taken_at : (n : ℕ) (vs : List Vertex) (k : ℕ) (v : Vertex) → slice_get (take n vs) k ≡ Some v → slice_get vs k ≡ Some v
+taken_at : (n : ℕ) (vs : List Vertex) (k : ℕ) (v : Vertex) → slice_get (take n vs) k ≡ Some v → slice_get vs k ≡ Some v
 taken_at zero vs k v h = cc
 taken_at (suc n) [] k v h = cc
 taken_at (suc n) (u ∷ vs) zero v h = h
 taken_at (suc n) (u ∷ vs) (suc k) v h = taken_at n vs k v h
 
-pub taken_length : (n : ℕ) (vs : List Vertex) → n ≤ length vs → length (take n vs) ≡ n
+taken_length : (n : ℕ) (vs : List Vertex) → n ≤ length vs → length (take n vs) ≡ n
 taken_length zero vs few = refl
 taken_length (suc n) [] few = absurd (omega arith)
 taken_length (suc n) (v ∷ vs) few = ap suc (taken_length n vs (omega arith))
-
-abbrev pub code : Vertex → ℕ
-code v = v.code
 
 -- the codes of the first vertices are different, and those of reached words
 module _ (w : WideWorldType) (s : State) (S : IsSound (flat w) s) (n : ℕ) where
@@ -220,22 +186,27 @@ wide_vertices_fit w h legal =
         let found = key_at cell vs q (Contains-from_any eqb-true q (keys cell vs) is) in
         subst (λ (c : ℕ). c < (flat w).cells) found.3 (S.below found.1.cell found.1.code (S.simple.vertex found.0 found.1 found.2))
 
+-- where there are more vertices than the capacity the reached words outnumber it, since each vertex is reached and no two
+-- have the same word
+pub many_outnumber : (w : WideWorldType) (h : List Event) → IsWideLegal w h → w.capacity < length (state_of h).vertices → Outnumber (counted w)
+many_outnumber w h legal more =
+    let S = wide_sound w h legal in
+    let first : List Vertex = take (w.capacity + 1) (state_of h).vertices in
+    record {
+      codes = keys code first;
+      many = length-keys code first ∙ taken_length (w.capacity + 1) (state_of h).vertices (omega arith);
+      distinct = taken_distinct w (state_of h) S (w.capacity + 1);
+      sound = taken_reached w (state_of h) S (w.capacity + 1);
+    }
+
 pub wide_closed_fits : WideClosedFits
-wide_closed_fits w h legal closed roots = (many, enough)
+wide_closed_fits w h legal closed roots = (many, many_outnumber w h legal)
   where
     vs : List Vertex
     vs = (state_of h).vertices
 
     S : IsSound (flat w) (state_of h)
     S = wide_sound w h legal
-
-    enough : w.capacity < length vs → Outnumber (counted w)
-    enough more = record {
-      codes = keys code (take (w.capacity + 1) vs);
-      many = length-keys code (take (w.capacity + 1) vs) ∙ taken_length (w.capacity + 1) vs (omega arith);
-      distinct = taken_distinct w (state_of h) S (w.capacity + 1);
-      sound = taken_reached w (state_of h) S (w.capacity + 1);
-    }
 
     many : Outnumber (counted w) → w.capacity < length vs
     many outnumber =
@@ -251,24 +222,10 @@ wide_closed_fits w h legal closed roots = (many, enough)
             let place = vertex_in vs at.0 q at.1 in
             list_any-from_Contains nat_eq_equiv q (keys code vs) (has_key code vs place.0 (record { cell = at.0; code = q }) place.1)
 
--- each act leaves the vertices that there are
-more_vertices : (s : State) (a : Act) → length s.vertices ≤ length (after s a).vertices
-more_vertices s (Added c x o) = omega (arith, length-append s.vertices (record { cell = c; code = x } ∷ []))
-more_vertices s (Met c x) = omega arith
-more_vertices s (Missed x) = omega arith
-more_vertices s (Spent x) = omega arith
-more_vertices s (Drew c a t) = omega arith
-more_vertices s (Saw c a t) = omega arith
-more_vertices s (Blank c a) = omega arith
-more_vertices s Owed = omega arith
-more_vertices s (Settled paid) = omega arith
-more_vertices s (Tally n) = omega arith
-
-vertices_from : (s : State) (g : List Event) → length s.vertices ≤ length (state_from s g).vertices
-vertices_from s [] = omega arith
-vertices_from s (e ∷ g) = let here = more_vertices s e.act in let rest = vertices_from (after s e.act) g in omega arith
-
+-- the number of vertices never falls
 pub vertices_stay_many : (f g : List Event) → length (state_of f).vertices ≤ length (state_of (f ++ g)).vertices
 vertices_stay_many f g =
     let all = ap (λ (s : State). length s.vertices) (state_from-append empty_state f g) in
-    let more = vertices_from (state_of f) g in omega arith
+    let more = vertices_from (state_of f) g in
+    let long = ap (λ (vs : List Vertex). length vs) more.1 ∙ length-append (state_of f).vertices more.0 in
+    omega arith

@@ -1,12 +1,12 @@
 //! Growers and sessions run beside each other.
 
-use super::{ROOM, job, strings};
-use crate::running::run;
-use crystal_streams::{Gate, MemorySink, MemorySource};
+use super::{ROOM, job, run_bare};
+use crystal_streams::{MemorySink, MemorySource};
 use std::alloc::Global;
 use std::sync::atomic::{AtomicU64, Ordering};
 use std::test::Fail;
 use std::thread::Threads;
+use worker_gate::Gate;
 
 /// A gate at whose start some workers wait for each other, for so many turns at most.
 #[derive(Drop)]
@@ -51,19 +51,10 @@ fn run_meeting<T: Threads + Sync>(
         came: AtomicU64::new(0),
         missed: AtomicU64::new(0),
     };
-    let words = strings(alloc, &["grow", growers])?;
-    let mut source = MemorySource::new(job(alloc, text)?, Vec::new(alloc), 4096);
-    let mut sink = MemorySink::new(alloc, ROOM, Vec::new(alloc), 4096)?;
-    let outcome = run(
-        rt,
-        alloc,
-        words.as_slice(),
-        &mut source,
-        &mut sink,
-        Vec::new(alloc),
-        &gate,
-    );
-    Ok((outcome.status, gate.missed.load(Ordering::SeqCst)))
+    let source = MemorySource::new(job(alloc, text)?, Vec::new(alloc), 4096);
+    let sink = MemorySink::new(alloc, ROOM, Vec::new(alloc), 4096)?;
+    let (status, _output) = run_bare(rt, alloc, &["grow", growers], source, sink, &gate)?;
+    Ok((status, gate.missed.load(Ordering::SeqCst)))
 }
 
 #[test]

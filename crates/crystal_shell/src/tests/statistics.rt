@@ -4,12 +4,13 @@ ghost use Rattle.std.specs.Prelude.{◌≡◌, [], IfOk};
 use super::{ROOM, job, strings};
 use crate::running::run;
 use crystal_characters::{Item, Statistic};
-use crystal_streams::{MemorySink, MemorySource, NoMemory, OpenGate};
+use crystal_streams::{MemorySink, MemorySource, NoMemory};
 use std::alloc::{AllocError, Global};
 use std::cell::Cell;
 use std::rc::Rc;
 use std::test::Fail;
 use std::thread::Threads;
+use worker_gate::OpenGate;
 
 /// A statistic with the name `ends` that reports nothing, and counts how often it is fed and dropped.
 struct Counted {

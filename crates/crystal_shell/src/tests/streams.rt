@@ -1,12 +1,12 @@
 //! Jobs that are cut off, streams that fail, and a statistic that wants memory.
 
 use super::statistics::{Counts, stubborn_status};
-use super::{A2, ROOM, strings};
-use crate::running::run;
-use crystal_streams::{MemorySink, MemorySource, OpenGate};
+use super::{A2, ROOM, run_bare};
+use crystal_streams::{MemorySink, MemorySource};
 use std::alloc::Global;
 use std::test::Fail;
 use std::thread::Threads;
+use worker_gate::OpenGate;
 
 /// The job of the documented text, of 41 bytes.
 const JOB: &str = "crystal-job 1\ntype A 2\nshape 2 1\ncells 8\n";
@@ -20,20 +20,10 @@ fn cut<T: Threads + Sync>(
     read: u64,
     write: u64,
 ) -> Result<(u8, Vec<u8>), Fail> {
-    let words = strings(alloc, &["grow", "2"])?;
     let input = JOB.as_bytes()[..bytes.min(JOB.len())].to_vec(alloc)?;
-    let mut source = MemorySource::new(input, [read].to_vec(alloc)?, 8);
-    let mut sink = MemorySink::new(alloc, ROOM, [write].to_vec(alloc)?, 16)?;
-    let outcome = run(
-        rt,
-        alloc,
-        words.as_slice(),
-        &mut source,
-        &mut sink,
-        Vec::new(alloc),
-        &OpenGate,
-    );
-    Ok((outcome.status, sink.bytes().to_vec(alloc)?))
+    let source = MemorySource::new(input, [read].to_vec(alloc)?, 8);
+    let sink = MemorySink::new(alloc, ROOM, [write].to_vec(alloc)?, 16)?;
+    run_bare(rt, alloc, &["grow", "2"], source, sink, &OpenGate)
 }
 
 /// Whether such a run ends with this status and this text.

@@ -3,29 +3,12 @@
 ghost use Rattle.std.specs.Prelude.{◌<◌, length};
 ghost use Rattle.crystal_cartan.specs.Types.{HasIndex};
 
-use canonical_graph::{Finished, grow_plain};
-use crystal_cartan::{Cartan, Kind};
+use crate::tests::components::{V, component};
+use canonical_graph::Finished;
+use crystal_cartan::Kind;
 use crystal_characters::*;
 use std::alloc::{AllocError, Global};
 use std::test::Fail;
-use tensor_words::{Codes, Factor, Space, World};
-
-const V: Factor = Factor::Vector;
-
-/// The component of the word with this code.
-fn component(
-    alloc: Global,
-    kind: Kind,
-    rank: u8,
-    factors: &[Factor],
-    code: u64,
-) -> Option<Finished> {
-    let space = Space::new(Cartan::new(kind, rank).ok()?, factors).ok()?;
-    let mut roots = Vec::new(alloc);
-    roots.push(code).ok()?;
-    let world = World::new(space, 100, Codes::of(roots)).ok()?;
-    grow_plain(alloc, &world).ok()
-}
 
 /// The component of the shape 2 1 in type A_2: the word 2 1 1.
 fn adjoint_of_a2(alloc: Global) -> Option<Finished> {

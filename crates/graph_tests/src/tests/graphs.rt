@@ -1,9 +1,10 @@
-//! Worked graphs, and their printed lines.
+//! Worked graphs.
 ghost use Rattle.std.specs.Prelude.{◌<◌, ◌^◌, length};
 
-use canonical_graph::{Finished, PlainFault, grow_plain};
+use canonical_graph::Finished;
 use crystal_cartan::{Arrow, Cartan, Kind};
-use crystal_streams::{Line, NoMemory};
+use crystal_streams::NoMemory;
+use plain_growth::{PlainFault, grow_plain};
 use std::alloc::{AllocError, Global};
 use tensor_words::{Codes, Factor, Space, World};
 
@@ -36,16 +37,6 @@ fn has_codes(graph: &Finished, codes: &[u64]) -> bool {
         }
     }
     true
-}
-
-/// Whether the vertex of this rank has this line.
-fn has_line(graph: &Finished, rank: u32, text: &[u8]) -> bool {
-    if rank >= graph.len() {
-        return false;
-    }
-    let mut line = Line::new();
-    graph.graph_line(rank, &mut line);
-    line.bytes() == text
 }
 
 /// The graph that is made anew of the codes of a graph.
@@ -85,28 +76,6 @@ fn a_component(rt: HostRuntime) -> Result<(), AllocError> {
     Ok(())
 }
 
-#[test]
-fn lines_of_a_graph(rt: HostRuntime) -> Result<(), AllocError> {
-    let roots = Codes::of(vec![in rt.alloc(); 9]?);
-    let whole = grown(rt.alloc(), 2, &[V, V, V], 8, roots).expect(&rt, "the root is a word");
-    let graph = whole.ok().expect(&rt, "eight words are reached");
-    assert_eq!(rt; (graph.len(), graph.arrows()), (8, 8));
-    let lines: [&[u8]; 8] = [
-        b"0 | 2 1 1 | 2 1 0 | 1:1 2:3",
-        b"1 | 2 1 2 | 1 2 0 | 2:2",
-        b"2 | 2 1 3 | 1 1 1 | 2:5",
-        b"3 | 3 1 1 | 2 0 1 | 1:4",
-        b"4 | 3 1 2 | 1 1 1 | 1:6",
-        b"5 | 3 1 3 | 1 0 2 | 1:7",
-        b"6 | 3 2 2 | 0 2 1 | 2:7",
-        b"7 | 3 2 3 | 0 1 2 | -",
-    ];
-    for rank in 0..8u32 {
-        assert!(rt; has_line(&graph, rank, lines[rank as usize]), "rank {rank}");
-    }
-    Ok(())
-}
-
 /// What e_1 makes of the vertex of this rank.
 fn raised(graph: &Finished, rank: u32) -> Option<u32> {
     let arrow = Arrow {
@@ -125,12 +94,5 @@ fn a_single_vertex(rt: HostRuntime) -> Result<(), AllocError> {
     let whole = grown(rt.alloc(), 1, &[V; 40], 1, roots).expect(&rt, "the root is a word");
     let graph = whole.ok().expect(&rt, "one word is reached");
     assert_eq!(rt; (graph.len(), raised(&graph, 0)), (1, None));
-    assert!(rt;
-        has_line(
-            &graph,
-            0,
-            b"0 | 2 1 2 1 2 1 2 1 2 1 2 1 2 1 2 1 2 1 2 1 2 1 2 1 2 1 2 1 2 1 2 1 2 1 2 1 2 1 2 1 | 20 20 | -"
-        )
-    );
     Ok(())
 }

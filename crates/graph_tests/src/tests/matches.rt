@@ -26,7 +26,7 @@ fn shortened(verdict: &Verdict) -> Option<Short> {
             if count == 0 {
                 return None;
             }
-            Some(Short::Differs(count, walk.at(count - 1)))
+            Some(Short::Differs(count, *walk.at(count - 1)))
         }
     }
 }
@@ -67,6 +67,6 @@ fn words_of_two_types(rt: HostRuntime) {
     let many = Some(Short::Fault(MatchFault::TooMany));
     assert_eq!(rt; [same, star, seven, none], [all, all, many, many]);
     let a1 = made(Kind::A, 1, &[V, V]).expect(&rt, "A_1 has vectors");
-    let told = answer(rt.alloc(), &a1, (0, 2), false, 1);
-    assert_eq!(rt; told, Some(Short::Differs(1, lowering(1))));
+    let differs = answer(rt.alloc(), &a1, (0, 2), false, 1);
+    assert_eq!(rt; differs, Some(Short::Differs(1, lowering(1))));
 }

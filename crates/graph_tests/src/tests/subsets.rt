@@ -3,33 +3,13 @@ ghost use Rattle.std.specs.Prelude.{◌<◌, IsTrue, All};
 ghost use Rattle.crystal_cartan.specs.Types.{HasIndex};
 ghost use Rattle.tensor_words.specs.Codes.{IsWord};
 
-use canonical_graph::{Finished, grow_plain};
+use crate::tests::components::{V, component, space_of};
+use canonical_graph::Finished;
 use crystal_cartan::{Cartan, Kind, Weight};
 use crystal_streams::NoMemory;
 use crystal_subsets::{demazure, product_tops, product_tops_law};
 use std::alloc::Global;
-use tensor_words::{Codes, Factor, Space, Word, World};
-
-const V: Factor = Factor::Vector;
-
-/// The tensor product of vector crystals.
-fn space_of(kind: Kind, rank: u8, factors: &[Factor]) -> Option<Space> {
-    Space::new(Cartan::new(kind, rank).ok()?, factors).ok()
-}
-
-/// The component of the word with this code.
-fn component(
-    alloc: Global,
-    kind: Kind,
-    rank: u8,
-    factors: &[Factor],
-    code: u64,
-) -> Option<Finished> {
-    let space = space_of(kind, rank, factors)?;
-    let roots = Codes::of(vec![in alloc; code].ok()?);
-    let world = World::new(space, 16, roots).ok()?;
-    grow_plain(alloc, &world).ok()
-}
+use tensor_words::{Space, Word};
 
 fn has_indices(cartan: Cartan, indices: &[u8]) -> bool
     ensures { IsTrue result → All (HasIndex cartan) indices.now }

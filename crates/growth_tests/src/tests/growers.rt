@@ -2,18 +2,21 @@
 ghost use Rattle.std.specs.Prelude.{◌≡◌, MatchOption, Contains};
 ghost use Rattle.graph_rule.specs.Parting.{first_view};
 ghost use Rattle.graph_rule.specs.Values.{Belongs};
-ghost use Rattle.intern_cells.specs.Entries.{entered_dues};
+ghost use Rattle.table_calls.specs.Entries.{entered_dues};
 
 use canonical_graph::Finished;
 use crystal_cartan::{Arrow, Cartan, Kind};
-use crystal_growers::{Grown, SharedDesk, Spent, expand, finished, grow};
-use crystal_streams::{NoMemory, OpenGate};
+use crystal_growers::{Grown, Spent, expand, grow};
+use crystal_streams::NoMemory;
 use graph_history::{Added, Desk, Draw, Look, Origin, PlainDesk};
+use graph_numbering::finished;
 use graph_rule::{Graph, Seat, settle};
+use shared_desk::SharedDesk;
 use std::alloc::Global;
 use std::process::Abort;
 use std::thread::Threads;
 use tensor_words::{Codes, Factor, Space, World};
+use worker_gate::OpenGate;
 
 const F_1: Arrow = Arrow {
     down: true,
@@ -129,7 +132,7 @@ fn enter(graph: &Graph, seat: &mut Seat, code: u64) -> Option<Added>
     if !graph.world().has_root(code) {
         return None;
     }
-    Some(intern_cells::add(graph, seat, code, Origin::Root))
+    Some(table_calls::add(graph, seat, code, Origin::Root))
 }
 
 /// The graph of the root `1 1` in three cells, which it fills, so that the other root finds none.
@@ -145,7 +148,7 @@ fn grow_full<R: Threads + Sync>(
     let Some(Added::New { cell }) = enter(graph, &mut seat, 0) else {
         return Ok(None);
     };
-    let _stake = seat.stake();
+    seat.reveal();
     let cells = Vec::from_array(alloc, [cell])?;
     let Grown::Closed = grow(rt, alloc, graph, &mut seat, cells, 2, &OpenGate)? else {
         return Ok(None);

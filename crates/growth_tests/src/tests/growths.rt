@@ -2,18 +2,20 @@
 ghost use Rattle.std.specs.Prelude.{◌≡◌, ◌≤◌, Contains};
 ghost use Rattle.graph_rule.specs.Parting.{first_view};
 
-use super::meetings::{MOST_TURNS, Meeting};
+use super::barriers::{Barrier, MOST_TURNS};
 use crystal_cartan::{Cartan, Kind};
-use crystal_growers::{Grown, finished, grow};
-use crystal_streams::{Gate, NoMemory, OpenGate};
+use crystal_growers::{Grown, grow};
+use crystal_streams::NoMemory;
 use graph_history::{Added, Origin};
+use graph_numbering::finished;
 use graph_rule::{Graph, Seat, settle, tally};
-use intern_cells::add;
 use std::alloc::Global;
 use std::sync::atomic::{AtomicU64, Ordering};
 use std::thread::Threads;
+use table_calls::add;
 use tableau_reading::Shape;
 use tensor_words::{Codes, Factor, Space, World};
+use worker_gate::{Gate, OpenGate};
 
 /// What came of a growth: how many debts and vertices there are in the end, or the code that found no cell.
 #[derive(Clone, Copy, Debug, PartialEq, Eq)]
@@ -58,7 +60,7 @@ fn grow_from<R: Threads + Sync, G: Gate>(
     let Added::New { cell } = add(graph, &mut seat, root, Origin::Root) else {
         return Ok(None);
     };
-    let _stake = seat.stake();
+    seat.reveal();
     let cells = Vec::from_array(alloc, [cell])?;
     match grow(rt, alloc, graph, &mut seat, cells, growers, gate)? {
         Grown::Closed => {
@@ -155,7 +157,7 @@ fn from_the_lowest_letter(rt: HostRuntime) -> Result<(), NoMemory> {
 #[test]
 fn growers_run_side_by_side(rt: HostRuntime) -> Result<(), NoMemory> {
     let both = (1 << 0) | (1 << 1);
-    let gate = Meeting::of(both);
+    let gate = Barrier::of(both);
     let ended = grow_words(&rt, rt.alloc(), 8, 2, &gate)?;
     let all = Outcome::Closed {
         debts: 0,
@@ -253,12 +255,12 @@ impl Gate for Stealing {
             (&self.second, &self.first)
         };
         own.store(turn, Ordering::SeqCst);
-        let met = match (worker, turn) {
+        let came = match (worker, turn) {
             (0, LATE) => reaches(other, 1),
             (1, 0) => reaches(other, LATE),
             _ => true,
         };
-        if !met {
+        if !came {
             self.missed.fetch_add(1, Ordering::SeqCst);
         }
     }

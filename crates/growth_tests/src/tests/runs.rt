@@ -1,13 +1,14 @@
 //! Runs of jobs in A_1 over words of two letters: `1 1` reaches three words, `2 1` is alone.
 ghost use Rattle.std.specs.Prelude.{◌≤◌};
 
-use super::meetings::Meeting;
-use crystal_streams::{Gate, NoMemory, OpenGate};
+use super::barriers::Barrier;
+use crystal_streams::NoMemory;
 use graph_runs::{Ran, run_beside};
 use job_text::{Job, MOST_JOB_BYTES, read_job};
 use session_desk::{Replies, Reply};
 use std::alloc::Global;
 use std::thread::Threads;
+use worker_gate::{Gate, OpenGate};
 
 /// What came of a job; `None` where it is refused.
 fn run_text<R: Threads + Sync, G: Gate>(
@@ -88,7 +89,7 @@ fn sixteen_sessions_add_one_word(rt: HostRuntime) -> Result<(), NoMemory> {
 fn a_session_runs_beside_a_grower(rt: HostRuntime) -> Result<(), NoMemory> {
     // The grower, and the session 1, which comes behind 16 growers.
     let both = (1 << 0) | (1 << 17);
-    let gate = Meeting::of(both);
+    let gate = Barrier::of(both);
     let text = "crystal-job 1\ntype A 1\nspace v v\nstart 1 1\nsession\nadd 1 1\n";
     let ran = run_text(&rt, rt.alloc(), text, 1, &gate)?;
     let ran = ran.expect(&rt, "the job is accepted");

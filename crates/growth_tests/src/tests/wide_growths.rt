@@ -1,14 +1,15 @@
 //! Growth of wide words, by calls.
 ghost use Rattle.std.specs.Prelude.{◌≤◌};
 
-use super::meetings::Meeting;
+use super::barriers::Barrier;
 use crystal_cartan::{Cartan, Kind};
-use crystal_streams::{Gate, NoMemory, OpenGate};
+use crystal_streams::NoMemory;
 use std::alloc::Global;
 use std::thread::Threads;
 use tensor_words::{Factor, Space};
 use wide_growth::{WideGrown, wide_grow};
 use wide_words::{WideCode, WideSpace};
+use worker_gate::{Gate, OpenGate};
 
 /// The words of two letters of A_1, one in each half.
 fn two_letters() -> Option<WideSpace> {
@@ -74,7 +75,7 @@ fn no_room_for_three(rt: HostRuntime) -> Result<(), NoMemory> {
 #[test]
 fn wide_growers_run_side_by_side(rt: HostRuntime) -> Result<(), NoMemory> {
     let both = (1 << 0) | (1 << 1);
-    let gate = Meeting::of(both);
+    let gate = Barrier::of(both);
     let ended = grow_letters(&rt, rt.alloc(), 3, 2, &gate)?;
     let all = WideGrown::Closed {
         vertices: 3,

@@ -1,6 +1,7 @@
 //! What is read of a job that has every key word. Refused jobs and limits stand as rows and tables under tests/.
 use crystal_cartan::{Arrow, Kind};
-use job_text::{Ask, Command, Job, MOST_JOB_BYTES, read_job, sample_job, sample_text};
+use job_text::{Ask, Command, Job, MOST_JOB_BYTES, read_job};
+use sample_jobs::{sample_job, sample_text};
 use std::alloc::Global;
 use tensor_words::Codes;
 

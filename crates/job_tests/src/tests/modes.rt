@@ -70,11 +70,11 @@ fn refused_words(rt: HostRuntime) {
         ("grow 16 ends strings", 0),
     ];
     for (line, number) in lines {
-        let told = fault_number(settings_of(rt.alloc(), line));
-        assert_eq!(rt; told, Some(number), "{line}");
+        let number_read = fault_number(settings_of(rt.alloc(), line));
+        assert_eq!(rt; number_read, Some(number), "{line}");
     }
-    let told = fault_number(read_words(rt.alloc(), &[], &[]));
-    assert_eq!(rt; told, Some(2));
+    let number_read = fault_number(read_words(rt.alloc(), &[], &[]));
+    assert_eq!(rt; number_read, Some(2));
 }
 
 #[test]
@@ -85,7 +85,7 @@ fn accepted_words(rt: HostRuntime) -> Result<(), Fail> {
     };
     assert_eq!(rt; growers, 2);
     assert_eq!(rt; chosen.len(), 2);
-    assert_eq!(rt; (chosen.at(0), chosen.at(1)), (1, 0));
+    assert_eq!(rt; (*chosen.at(0), *chosen.at(1)), (1, 0));
     let sample = settings_of(rt.alloc(), "sample 16 4294967295")?;
     let Settings::Sample { growers, number } = sample else {
         panic!(rt; "another mode");

@@ -6,9 +6,9 @@ use super::worlds::world;
 use crystal_streams::NoMemory;
 use graph_history::{Added, Origin};
 use graph_rule::{Graph, Seat, tally};
-use intern_cells::{add, add_at, find, word};
 use std::alloc::Global;
 use std::thread::{Threads, join};
+use table_calls::{add, add_at, find, word};
 use tensor_words::{Factor, World};
 
 /// The words of two letters, with the roots `1 1` and `2 1`.

@@ -7,8 +7,8 @@ use super::worlds::world;
 use crystal_streams::NoMemory;
 use graph_history::{Added, Origin};
 use graph_rule::{Graph, Seat};
-use intern_cells::add;
 use std::thread::{Threads, join};
+use table_calls::add;
 use tensor_words::Factor;
 
 /// Adds the root from one seat; answers the seat, and 1 where it was told that the root is new.

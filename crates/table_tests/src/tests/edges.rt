@@ -7,10 +7,9 @@ ghost use Rattle.graph_rule.specs.Values.{Belongs};
 use super::worlds::world;
 use crystal_cartan::Arrow;
 use crystal_streams::NoMemory;
-use edge_words::{look, set};
 use graph_history::{Look, Origin};
 use graph_rule::{Graph, Seat, claim, load_cell, owe, release, settle};
-use intern_cells::SPREAD;
+use table_calls::{SPREAD, look, set};
 use tensor_words::{Factor, Space, next_code};
 
 /// The first cell of a code's path.
@@ -30,7 +29,7 @@ fn put(graph: &Graph, seat: &mut Seat, code: u64) -> Option<u32>
     ensures belongs { Belongs seat.new graph.now }
     ensures pledge { seat.new.view.dues.pledge ≡ 0 }
 {
-    let _stake = seat.stake();
+    seat.reveal();
     if code >= graph.world().space().size() || !graph.world().has_root(code) {
         return None;
     }

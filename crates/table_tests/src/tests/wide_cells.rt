@@ -33,8 +33,8 @@ struct Told {
 
 /// Adds the root at the place.
 fn add_at_place(graph: &WideGraph, job: Told) -> Told
-    requires { Belongs job.seat graph.now × (job.seat.view.own.pending ≡ None) }
-    ensures { Belongs result.seat graph.now × (result.seat.view.own.pending ≡ None) }
+    requires { Belongs job.seat graph.now × (job.seat.view.dues.pending ≡ None) }
+    ensures { Belongs result.seat graph.now × (result.seat.view.dues.pending ≡ None) }
 {
     let Told {
         mut seat,
@@ -51,10 +51,10 @@ fn add_at_place(graph: &WideGraph, job: Told) -> Told
 
 /// Each of two seats adds on a thread of its own.
 fn add_both<R: Threads + Sync>(rt: &R, graph: &WideGraph, one: Told, two: Told) -> (Told, Told)
-    requires one { Belongs one.seat graph.now × (one.seat.view.own.pending ≡ None) }
-    requires two { Belongs two.seat graph.now × (two.seat.view.own.pending ≡ None) }
-    ensures one { Belongs result.0.seat graph.now × (result.0.seat.view.own.pending ≡ None) }
-    ensures two { Belongs result.1.seat graph.now × (result.1.seat.view.own.pending ≡ None) }
+    requires one { Belongs one.seat graph.now × (one.seat.view.dues.pending ≡ None) }
+    requires two { Belongs two.seat graph.now × (two.seat.view.dues.pending ≡ None) }
+    ensures one { Belongs result.0.seat graph.now × (result.0.seat.view.dues.pending ≡ None) }
+    ensures two { Belongs result.1.seat graph.now × (result.1.seat.view.dues.pending ≡ None) }
 {
     join(
         rt,
@@ -109,10 +109,10 @@ fn split_off(
     seats: usize,
 ) -> Result<Vec<Told>, NoMemory>
     requires belongs { Belongs seat.old graph.now }
-    requires idle { seat.old.view.own.pending ≡ None }
+    requires idle { seat.old.view.dues.pending ≡ None }
     ensures belongs { Belongs seat.new graph.now }
-    ensures idle { seat.new.view.own.pending ≡ None }
-    ensures jobs { IfOk result (λ jobs. All (λ j. Belongs j.seat graph.now × (j.seat.view.own.pending ≡ None)) jobs.items) }
+    ensures idle { seat.new.view.dues.pending ≡ None }
+    ensures jobs { IfOk result (λ jobs. All (λ j. Belongs j.seat graph.now × (j.seat.view.dues.pending ≡ None)) jobs.items) }
 {
     let mut jobs = Vec::new(alloc);
     for place in 0..seats {
@@ -134,10 +134,10 @@ fn add_all<R: Threads + Sync>(
     graph: &WideGraph,
     jobs: Vec<Told>,
 ) -> Result<Vec<Told>, NoMemory>
-    requires { All (λ j. Belongs j.seat graph.now × (j.seat.view.own.pending ≡ None)) jobs.items }
+    requires { All (λ j. Belongs j.seat graph.now × (j.seat.view.dues.pending ≡ None)) jobs.items }
 {
     let run = move |job: Told| -> Told
-        requires { Belongs job.seat graph.now × (job.seat.view.own.pending ≡ None) }
+        requires { Belongs job.seat graph.now × (job.seat.view.dues.pending ≡ None) }
     { add_at_place(graph, job) };
     match map_vec(rt, jobs, &run) {
         Ok(told) => Ok(told),
@@ -148,9 +148,9 @@ fn add_all<R: Threads + Sync>(
 /// How many pairs were new, each in a cell that no one before it was told, and are found there.
 fn found_where_put(graph: &WideGraph, seat: &mut WideSeat, told: &[Told]) -> usize
     requires belongs { Belongs seat.old graph.now }
-    requires idle { seat.old.view.own.pending ≡ None }
+    requires idle { seat.old.view.dues.pending ≡ None }
     ensures belongs { Belongs seat.new graph.now }
-    ensures idle { seat.new.view.own.pending ≡ None }
+    ensures idle { seat.new.view.dues.pending ≡ None }
 {
     let mut taken = [false; 64];
     let mut right = 0;
@@ -210,9 +210,9 @@ fn mixed(code: WideCode) -> u64
 /// empty.
 fn claim_and_go(graph: &WideGraph, seat: &mut WideSeat, place: usize) -> Option<bool>
     requires belongs { Belongs seat.old graph.now }
-    requires idle { seat.old.view.own.pending ≡ None }
+    requires idle { seat.old.view.dues.pending ≡ None }
     ensures belongs { Belongs seat.new graph.now }
-    ensures idle { seat.new.view.own.pending ≡ None }
+    ensures idle { seat.new.view.dues.pending ≡ None }
 {
     let code = root(graph, place)?;
     if seat.stake() < 2 || seat.numbers_left() < 1 {
@@ -227,9 +227,9 @@ fn claim_and_go(graph: &WideGraph, seat: &mut WideSeat, place: usize) -> Option<
 /// Of how many roots at these places a first cell was claimed so.
 fn claimed_and_left(graph: &WideGraph, seat: &mut WideSeat, from: usize, end: usize) -> usize
     requires belongs { Belongs seat.old graph.now }
-    requires idle { seat.old.view.own.pending ≡ None }
+    requires idle { seat.old.view.dues.pending ≡ None }
     ensures belongs { Belongs seat.new graph.now }
-    ensures idle { seat.new.view.own.pending ≡ None }
+    ensures idle { seat.new.view.dues.pending ≡ None }
 {
     let mut claimed = 0;
     for place in from..end {
@@ -243,9 +243,9 @@ fn claimed_and_left(graph: &WideGraph, seat: &mut WideSeat, from: usize, end: us
 /// How many roots at these places were missed, then new, and then found in the cell that was told.
 fn new_and_found(graph: &WideGraph, seat: &mut WideSeat, from: usize, end: usize) -> usize
     requires belongs { Belongs seat.old graph.now }
-    requires idle { seat.old.view.own.pending ≡ None }
+    requires idle { seat.old.view.dues.pending ≡ None }
     ensures belongs { Belongs seat.new graph.now }
-    ensures idle { seat.new.view.own.pending ≡ None }
+    ensures idle { seat.new.view.dues.pending ≡ None }
 {
     let mut right = 0;
     for place in from..end {

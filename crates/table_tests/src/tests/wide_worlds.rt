@@ -59,9 +59,9 @@ pub(super) fn root(graph: &WideGraph, place: usize) -> Option<WideCode>
 /// Adds the root at this place, `None` past the last.
 pub(super) fn add_root(graph: &WideGraph, seat: &mut WideSeat, place: usize) -> Option<Added>
     requires belongs { Belongs seat.old graph.now }
-    requires idle { seat.old.view.own.pending ≡ None }
+    requires idle { seat.old.view.dues.pending ≡ None }
     ensures belongs { Belongs seat.new graph.now }
-    ensures idle { seat.new.view.own.pending ≡ None }
+    ensures idle { seat.new.view.dues.pending ≡ None }
 {
     let code = root(graph, place)?;
     Some(add(graph, seat, code, Origin::Root))
@@ -70,9 +70,9 @@ pub(super) fn add_root(graph: &WideGraph, seat: &mut WideSeat, place: usize) -> 
 /// Looks for the root at this place, `None` past the last.
 pub(super) fn find_root(graph: &WideGraph, seat: &mut WideSeat, place: usize) -> Option<Option<u32>>
     requires belongs { Belongs seat.old graph.now }
-    requires idle { seat.old.view.own.pending ≡ None }
+    requires idle { seat.old.view.dues.pending ≡ None }
     ensures belongs { Belongs seat.new graph.now }
-    ensures idle { seat.new.view.own.pending ≡ None }
+    ensures idle { seat.new.view.dues.pending ≡ None }
 {
     let code = root(graph, place)?;
     Some(find(graph, seat, code))

@@ -111,7 +111,7 @@ fn whole_writes(rt: HostRuntime) -> Result<(), Fail> {
         (9, 2, Err(WriteFault), b"abc"),
         (4, 9, Err(WriteFault), b"abcd"),
     ];
-    for (room, failing, answer, held) in cases {
+    for (room, failing, answer, taken) in cases {
         let fails = [failing].to_vec(rt.alloc())?;
         let mut sink = MemorySink::new(rt.alloc(), room, fails, 3)?;
         assert_eq!(rt;
@@ -119,7 +119,7 @@ fn whole_writes(rt: HostRuntime) -> Result<(), Fail> {
             answer,
             "room {room}, {failing}"
         );
-        assert_eq!(rt; sink.bytes(), held, "room {room}, {failing}");
+        assert_eq!(rt; sink.bytes(), taken, "room {room}, {failing}");
     }
     Ok(())
 }

@@ -5,5 +5,5 @@ use Rattle.answer_text.proofs.asks.print_asks.Given as goal
 
 abbrev pub invariant-asks : goal.invariant-asks
 invariant-asks g l =
-    Prints {T = Unit {0}} {E = Unit {0}} (g.W.Sink.held l.fn.sink) (g.W.Sink.held l.sink) (g.W.Sink.faults l.fn.sink) (g.W.Sink.faults l.sink) l.fn.page l.page
+    Prints {T = Unit {0}} {E = Unit {0}} (g.W.Sink.taken l.fn.sink) (g.W.Sink.taken l.sink) (g.W.Sink.faults l.fn.sink) (g.W.Sink.faults l.sink) l.fn.page l.page
     (asks_text l.finished (take l.ask-index l.asks)) (Ok tt)

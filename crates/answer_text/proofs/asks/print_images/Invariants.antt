@@ -7,5 +7,5 @@ use Rattle.answer_text.proofs.asks.print_images.Given as goal
 
 abbrev pub invariant-images : goal.invariant-images
 invariant-images g l =
-    Prints {T = Unit {0}} {E = Unit {0}} (g.W.Sink.held l.fn.sink) (g.W.Sink.held l.sink) (g.W.Sink.faults l.fn.sink) (g.W.Sink.faults l.sink) l.fn.page l.page
+    Prints {T = Unit {0}} {E = Unit {0}} (g.W.Sink.taken l.fn.sink) (g.W.Sink.taken l.sink) (g.W.Sink.faults l.fn.sink) (g.W.Sink.faults l.sink) l.fn.page l.page
     (numbered (λ rank image. ended (image_line rank image)) 0 (take l.place l.images)) (Ok tt)

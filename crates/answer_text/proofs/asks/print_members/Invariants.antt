@@ -7,5 +7,5 @@ use Rattle.answer_text.proofs.asks.print_members.Given as goal
 
 abbrev pub invariant-members : goal.invariant-members
 invariant-members g l =
-    Prints {T = Unit {0}} {E = Unit {0}} (g.W.Sink.held l.fn.sink) (g.W.Sink.held l.sink) (g.W.Sink.faults l.fn.sink) (g.W.Sink.faults l.sink) l.fn.page l.page
+    Prints {T = Unit {0}} {E = Unit {0}} (g.W.Sink.taken l.fn.sink) (g.W.Sink.taken l.sink) (g.W.Sink.faults l.fn.sink) (g.W.Sink.faults l.sink) l.fn.page l.page
     (flat_map (λ rank. ended (member_line l.finished rank)) (take l.rank-index l.ranks)) (Ok tt)

@@ -7,5 +7,5 @@ use Rattle.answer_text.proofs.asks.print_top_lines.Given as goal
 
 abbrev pub invariant-tops : goal.invariant-tops
 invariant-tops g l =
-    Prints {T = Unit {0}} {E = Unit {0}} (g.W.Sink.held l.fn.sink) (g.W.Sink.held l.sink) (g.W.Sink.faults l.fn.sink) (g.W.Sink.faults l.sink) l.fn.page l.page
+    Prints {T = Unit {0}} {E = Unit {0}} (g.W.Sink.taken l.fn.sink) (g.W.Sink.taken l.sink) (g.W.Sink.faults l.fn.sink) (g.W.Sink.faults l.sink) l.fn.page l.page
     (flat_map (λ top. ended (top_line l.finished l.word top.0 top.1)) (take l.rank-index l.tops)) (Ok tt)

@@ -8,5 +8,5 @@ use Rattle.answer_text.proofs.censuses.print_readings.Given as goal
 
 abbrev pub invariant-codes : goal.invariant-codes
 invariant-codes g l =
-    Prints {T = Unit {0}} {E = Unit {0}} (g.W.Sink.held l.fn.sink) (g.W.Sink.held l.sink) (g.W.Sink.faults l.fn.sink) (g.W.Sink.faults l.sink) l.fn.page l.page
+    Prints {T = Unit {0}} {E = Unit {0}} (g.W.Sink.taken l.fn.sink) (g.W.Sink.taken l.sink) (g.W.Sink.faults l.fn.sink) (g.W.Sink.faults l.sink) l.fn.page l.page
     (flat_map (λ code. ended (word_text l.space (word_of l.space code))) (take l.code-index l.codes)) (Ok tt)

@@ -1,7 +1,7 @@
 use Rattle.std.proofs.Common.{◌≡◌, ◌<◌, ◌∙◌, ap, ℕ, length, arith, get_or}
 use Rattle.std.specs.List.{range_with_len}
 use Rattle.std.proofs.lemmas.List.FromFn.{get_or-range_with_len, length-range_with_len}
-use Rattle.canonical_graph.specs.Texts.{vertex_text}
+use Rattle.answer_text.specs.Vertices.{vertex_text}
 use Rattle.crystal_streams.specs.Lines.{ended}
 use Rattle.answer_text.proofs.Loops.{each_more, each_stopped, each_all}
 use Rattle.answer_text.proofs.Printed.{prints_nothing}

@@ -5,5 +5,5 @@ use Rattle.answer_text.proofs.sessions.print_replies.Given as goal
 
 abbrev pub invariant-replies : goal.invariant-replies
 invariant-replies g l =
-    Prints {T = Unit {0}} {E = Unit {0}} (g.W.Sink.held l.fn.sink) (g.W.Sink.held l.sink) (g.W.Sink.faults l.fn.sink) (g.W.Sink.faults l.sink) l.fn.page l.page
+    Prints {T = Unit {0}} {E = Unit {0}} (g.W.Sink.taken l.fn.sink) (g.W.Sink.taken l.sink) (g.W.Sink.faults l.fn.sink) (g.W.Sink.faults l.sink) l.fn.page l.page
     (reply_lines l.space (take l.reply-index l.replies)) (Ok tt)

@@ -11,7 +11,7 @@ asks-preserved c = record {
   count = search rules;
   capacity = search rules;
   told = answers_to c.args.finished.now c.args.start c.args.asks.now c.asks.place c.at.result.now c.asks.answers.items c.push_reserved.new.self.items c.in_ok-answer.answer
-      c.at.ensures c.asks.invariant.told c.push_reserved.ensures.items c.in_ok-answer.ensures;
+      c.at.ensures.item c.asks.invariant.told c.push_reserved.ensures.items c.in_ok-answer.ensures;
 }
 
 pub returns-clause-printable : goal.returns-clause-printable

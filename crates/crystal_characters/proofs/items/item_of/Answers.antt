@@ -4,7 +4,7 @@ use Rattle.crystal_cartan.specs.Types.{CartanType}
 use Rattle.tensor_words.specs.Spaces.{SpaceType}
 use Rattle.tensor_words.specs.TensorRule.{action}
 use Rattle.signature_rule.specs.Places.{AreStrings}
-use Rattle.canonical_graph.specs.Texts.{vertex_word}
+use Rattle.canonical_graph.specs.Graphs.{vertex_word}
 use Rattle.crystal_characters.specs.Characters.{vertex_weight}
 use Rattle.crystal_characters.specs.Items.{item_at, vertex_eps, vertex_phi}
 use Rattle.crystal_characters.proofs.Padding.{index_numbers}

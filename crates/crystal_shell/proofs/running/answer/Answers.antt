@@ -1,68 +1,37 @@
-use Rattle.std.proofs.Common.{map, string_bytes, refl, ap}
+use Rattle.std.proofs.Common.{◌≡◌, Ok, IsErrOf, IsOk, map, string_bytes, ap, subst, Result}
 use Rattle.answer_text.specs.Answers.{answer_bytes}
-use Rattle.crystal_shell.specs.Heard.{asks_for_job}
-use Rattle.crystal_shell.proofs.Words.{heard_through}
-use Rattle.crystal_shell.proofs.Ends.{called_compared, called_counted, called_grown, called_refused, called_sampled, called_widened, read_unasked}
+use Rattle.command_words.specs.declared.fault.WordsFault.{WordsFault}
+use Rattle.command_words.specs.declared.settings.Settings.{Settings}
+use Rattle.crystal_shell.specs.Runs.{HasRead}
+use Rattle.crystal_shell.proofs.Words.{fault_through, settings_through}
+use Rattle.crystal_shell.proofs.Ends.{called_as, called_refused, read_refused}
+use Rattle.crystal_shell.specs.declared.outcomes.NoAnswer.TheVariants.{ReadFault}
 use Rattle.crystal_shell.proofs.running.answer.Goals as goal
 
-pub returns-in-Refused-clause-called : goal.returns-in-Refused-clause-called
-returns-in-Refused-clause-called g c =
-    let is = heard_through (λ b. (goal.Statistic-dyn g (b.vtable, b.value)).named b.value) (λ b. (goal.Statistic-dyn g (b.vtable, b.value)).reported b.value)
-    c.as_slice.result.now c.args.stats.now.items (map string_bytes c.args.words.now) c.in_ok-heard.heard c.as_slice.ensures.value c.in_ok-heard.ensures.heard in
+pub returns-in-Ok-clause-called : goal.returns-in-Ok-clause-called
+returns-in-Ok-clause-called g c =
+    let is = settings_through (λ b. (goal.Statistic-dyn g (b.vtable, b.value)).named b.value) (λ b. (goal.Statistic-dyn g (b.vtable, b.value)).reported b.value)
+    c.as_slice.result.now c.args.stats.now.items (map string_bytes c.args.words.now) c.as_slice.ensures.value c.in-Ok.settings c.in-Ok.ensures.answer in
+    called_as (map (λ b. record { name = (goal.Statistic-dyn g (b.vtable, b.value)).named b.value; reports = (goal.Statistic-dyn g (b.vtable, b.value)).reported b.value }) c.args.stats.now.items)
+    (g.R.Source.left c.args.source.now) (Ok c.in-Ok.settings) _ c.answer_settings.result is c.answer_settings.ensures.called
+
+pub returns-in-Ok-clause-read : goal.returns-in-Ok-clause-read
+returns-in-Ok-clause-read g c =
+    let is = settings_through (λ b. (goal.Statistic-dyn g (b.vtable, b.value)).named b.value) (λ b. (goal.Statistic-dyn g (b.vtable, b.value)).reported b.value)
+    c.as_slice.result.now c.args.stats.now.items (map string_bytes c.args.words.now) c.as_slice.ensures.value c.in-Ok.settings c.in-Ok.ensures.answer in
+    subst (λ (j : Result Settings WordsFault). HasRead g.R.Source.left g.R.Source.faults j c.args.source.now c.answer_settings.new.source
+    (IsOk c.answer_settings.result) (IsErrOf c.answer_settings.result ReadFault)) is c.answer_settings.ensures.read
+
+pub returns-in-Some-clause-called : goal.returns-in-Some-clause-called
+returns-in-Some-clause-called g c =
+    let is = fault_through (λ b. (goal.Statistic-dyn g (b.vtable, b.value)).named b.value) (λ b. (goal.Statistic-dyn g (b.vtable, b.value)).reported b.value)
+    c.as_slice.result.now c.args.stats.now.items (map string_bytes c.args.words.now) c.as_slice.ensures.value c.in-Err.fault c.in-Some.number (cc) c.in-Err.ensures.answer in
     let a = c.refused_words in
-    called_refused _ (map string_bytes c.args.words.now) (g.R.Source.left c.args.source.now) c.in_ok-heard.heard is c.in-Refused.fault
-    a.result.status a.result.front a.result.held (answer_bytes a.result.answer) c.in-Refused.is a.ensures.status a.ensures.unkept.0 a.ensures.unkept.1 (ap answer_bytes a.ensures.answer)
+    called_refused _ (g.R.Source.left c.args.source.now) _ c.in-Err.fault c.in-Some.number
+    a.result.status a.result.front a.result.held (answer_bytes a.result.answer) is (cc) a.ensures.status a.ensures.unkept.0 a.ensures.unkept.1 (ap answer_bytes a.ensures.answer)
 
-pub returns-in_ok-grow-in-Grow-clause-called : goal.returns-in_ok-grow-in-Grow-clause-called
-returns-in_ok-grow-in-Grow-clause-called g c =
-    let is = heard_through (λ b. (goal.Statistic-dyn g (b.vtable, b.value)).named b.value) (λ b. (goal.Statistic-dyn g (b.vtable, b.value)).reported b.value)
-    c.as_slice.result.now c.args.stats.now.items (map string_bytes c.args.words.now) c.in_ok-heard.heard c.as_slice.ensures.value c.in_ok-heard.ensures.heard in
-    let a = c.in_ok-grow-in-Grow in
-    called_grown _ (map string_bytes c.args.words.now) (g.R.Source.left c.args.source.now) c.in_ok-heard.heard is c.in-Grow.growers c.in-Grow.places c.in_ok-input-in-Grow.input
-    a.field-0.status a.field-0.front a.field-0.held (answer_bytes a.field-0.answer) c.in-Grow.is c.in_ok-input-in-Grow.ensures.judged a.ensures.grows
-
-pub returns-in_ok-sample-in-Sample-clause-called : goal.returns-in_ok-sample-in-Sample-clause-called
-returns-in_ok-sample-in-Sample-clause-called g c =
-    let is = heard_through (λ b. (goal.Statistic-dyn g (b.vtable, b.value)).named b.value) (λ b. (goal.Statistic-dyn g (b.vtable, b.value)).reported b.value)
-    c.as_slice.result.now c.args.stats.now.items (map string_bytes c.args.words.now) c.in_ok-heard.heard c.as_slice.ensures.value c.in_ok-heard.ensures.heard in
-    let a = c.in_ok-sample-in-Sample in
-    called_sampled _ (map string_bytes c.args.words.now) (g.R.Source.left c.args.source.now) c.in_ok-heard.heard is c.in-Sample.growers c.in-Sample.number
-    a.field-0.status a.field-0.front a.field-0.held (answer_bytes a.field-0.answer) c.in-Sample.is a.ensures.samples
-
-pub returns-in_ok-sample-in-Sample-clause-read : goal.returns-in_ok-sample-in-Sample-clause-read
-returns-in_ok-sample-in-Sample-clause-read g c =
-    let is = heard_through (λ b. (goal.Statistic-dyn g (b.vtable, b.value)).named b.value) (λ b. (goal.Statistic-dyn g (b.vtable, b.value)).reported b.value)
-    c.as_slice.result.now c.args.stats.now.items (map string_bytes c.args.words.now) c.in_ok-heard.heard c.as_slice.ensures.value c.in_ok-heard.ensures.heard in
-    read_unasked g.R.Source.left g.R.Source.faults _ (map string_bytes c.args.words.now) c.in_ok-heard.heard is c.args.source.now c.args.source.now _ _
-    (ap asks_for_job c.in-Sample.is) refl (λ failed. cc)
-
-pub returns-in_ok-count-in-Census-clause-called : goal.returns-in_ok-count-in-Census-clause-called
-returns-in_ok-count-in-Census-clause-called g c =
-    let is = heard_through (λ b. (goal.Statistic-dyn g (b.vtable, b.value)).named b.value) (λ b. (goal.Statistic-dyn g (b.vtable, b.value)).reported b.value)
-    c.as_slice.result.now c.args.stats.now.items (map string_bytes c.args.words.now) c.in_ok-heard.heard c.as_slice.ensures.value c.in_ok-heard.ensures.heard in
-    let a = c.in_ok-count-in-Census in
-    called_counted _ (map string_bytes c.args.words.now) (g.R.Source.left c.args.source.now) c.in_ok-heard.heard is c.in-Census.shape
-    a.field-0.status a.field-0.front a.field-0.held (answer_bytes a.field-0.answer) c.in-Census.is a.ensures.unkept.0 a.ensures.unkept.1 a.ensures.counts
-
-pub returns-in_ok-count-in-Census-clause-read : goal.returns-in_ok-count-in-Census-clause-read
-returns-in_ok-count-in-Census-clause-read g c =
-    let is = heard_through (λ b. (goal.Statistic-dyn g (b.vtable, b.value)).named b.value) (λ b. (goal.Statistic-dyn g (b.vtable, b.value)).reported b.value)
-    c.as_slice.result.now c.args.stats.now.items (map string_bytes c.args.words.now) c.in_ok-heard.heard c.as_slice.ensures.value c.in_ok-heard.ensures.heard in
-    read_unasked g.R.Source.left g.R.Source.faults _ (map string_bytes c.args.words.now) c.in_ok-heard.heard is c.args.source.now c.args.source.now _ _
-    (ap asks_for_job c.in-Census.is) refl (λ failed. cc)
-
-pub returns-in_ok-matched-in-Match-clause-called : goal.returns-in_ok-matched-in-Match-clause-called
-returns-in_ok-matched-in-Match-clause-called g c =
-    let is = heard_through (λ b. (goal.Statistic-dyn g (b.vtable, b.value)).named b.value) (λ b. (goal.Statistic-dyn g (b.vtable, b.value)).reported b.value)
-    c.as_slice.result.now c.args.stats.now.items (map string_bytes c.args.words.now) c.in_ok-heard.heard c.as_slice.ensures.value c.in_ok-heard.ensures.heard in
-    let a = c.in_ok-matched-in-Match in
-    called_compared _ (map string_bytes c.args.words.now) (g.R.Source.left c.args.source.now) c.in_ok-heard.heard is c.in-Match.relabelling c.in_ok-input-in-Match.input
-    a.field-0.status a.field-0.front a.field-0.held (answer_bytes a.field-0.answer) c.in-Match.is a.ensures.unkept.0 a.ensures.unkept.1 c.in_ok-input-in-Match.ensures.judged a.ensures.compares
-
-pub returns-in_ok-widen-in-Wide-clause-called : goal.returns-in_ok-widen-in-Wide-clause-called
-returns-in_ok-widen-in-Wide-clause-called g c =
-    let is = heard_through (λ b. (goal.Statistic-dyn g (b.vtable, b.value)).named b.value) (λ b. (goal.Statistic-dyn g (b.vtable, b.value)).reported b.value)
-    c.as_slice.result.now c.args.stats.now.items (map string_bytes c.args.words.now) c.in_ok-heard.heard c.as_slice.ensures.value c.in_ok-heard.ensures.heard in
-    let a = c.in_ok-widen-in-Wide in
-    called_widened _ (map string_bytes c.args.words.now) (g.R.Source.left c.args.source.now) c.in_ok-heard.heard is c.in-Wide.growers c.in_ok-input-in-Wide.input
-    a.field-0.status a.field-0.front a.field-0.held (answer_bytes a.field-0.answer) c.in-Wide.is a.ensures.unkept.0 a.ensures.unkept.1 c.in_ok-input-in-Wide.ensures.judged a.ensures.widens
+pub returns-in-Some-clause-read : goal.returns-in-Some-clause-read
+returns-in-Some-clause-read g c =
+    let is = fault_through (λ b. (goal.Statistic-dyn g (b.vtable, b.value)).named b.value) (λ b. (goal.Statistic-dyn g (b.vtable, b.value)).reported b.value)
+    c.as_slice.result.now c.args.stats.now.items (map string_bytes c.args.words.now) c.as_slice.ensures.value c.in-Err.fault c.in-Some.number (cc) c.in-Err.ensures.answer in
+    read_refused g.R.Source.left g.R.Source.faults c.in-Err.fault _ c.args.source.now c.refused_words.result ReadFault is

@@ -8,6 +8,6 @@ abbrev pub invariant-places : goal.invariant-places
 invariant-places g l = record {
   count : vec_len l.reports ≡ l.k;
   capacity : length l.places ≤ vec_capacity l.reports;
-  told : AreReports (map (λ b. record { name = (goal.Statistic-dyn g (b.vtable, b.value)).named b.value; reports = (goal.Statistic-dyn g (b.vtable, b.value)).reported b.value }) l.fn.stats.items) (take l.k l.places) (items_of l.finished) l.reports.items;
+  made : AreReports (map (λ b. record { name = (goal.Statistic-dyn g (b.vtable, b.value)).named b.value; reports = (goal.Statistic-dyn g (b.vtable, b.value)).reported b.value }) l.fn.stats.items) (take l.k l.places) (items_of l.finished) l.reports.items;
   short : AreShort l.reports.items;
 }

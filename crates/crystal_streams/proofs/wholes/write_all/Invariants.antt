@@ -5,7 +5,7 @@ use Rattle.crystal_streams.proofs.wholes.write_all.Given as goal
 abbrev pub invariant-loop-at : goal.invariant-loop-at
 invariant-loop-at g l = record {
   within : l.at ≤ length l.bytes;
-  taken : Appends (g.W.Sink.held l.fn.sink) (g.W.Sink.held l.sink) (take l.at l.bytes);
+  taken : Appends (g.W.Sink.taken l.fn.sink) (g.W.Sink.taken l.sink) (take l.at l.bytes);
   later : g.W.Sink.faults l.fn.sink ≤ g.W.Sink.faults l.sink;
 }
 

@@ -1,6 +1,6 @@
 use Rattle.std.proofs.Common.{◌≡◌, map, length}
 use Rattle.std.specs.List.{filter, range_with_len}
-use Rattle.canonical_graph.specs.Texts.{vertex_word}
+use Rattle.canonical_graph.specs.Graphs.{vertex_word}
 use Rattle.crystal_subsets.specs.ProductTops.{is_top_beside, top_entry}
 use Rattle.crystal_subsets.proofs.tops.product_tops.Given as goal
 

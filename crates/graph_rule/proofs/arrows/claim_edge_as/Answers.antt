@@ -8,7 +8,7 @@ use Rattle.graph_rule.proofs.EdgeSteps.{cell_there, in_words, draws}
 use Rattle.graph_rule.proofs.arrows.claim_edge_as.Goals as goal
 
 pub word_index-index-requires-clause-cell : goal.word_index-index-requires-clause-cell
-word_index-index-requires-clause-cell g c = cell_there c.args.seat.now c.args.graph.now c.args.cell c.requires.belongs c.stake-stake.ensures.known (c.requires.target.0, c.requires.target.1)
+word_index-index-requires-clause-cell g c = cell_there c.args.seat.now c.args.graph.now c.args.cell c.requires.belongs c.reveal.ensures.known (c.requires.target.0, c.requires.target.1)
 
 pub compare_exchange-requires : goal.compare_exchange-requires
 compare_exchange-requires g c =
@@ -17,7 +17,7 @@ compare_exchange-requires g c =
     let arrow = subst (λ (q : SeatValue). IsArrow q.view.world.space c.args.arrow) (sym c.seat.view_is) c.requires.arrow in
     let leads = subst (λ (q : SeatValue). LeadsTo q.view.world (state_of q.view.front) c.args.cell c.args.arrow c.args.to) (sym c.seat.view_is) c.requires.target in (
       search rules,
-      in_words c.args.seat.now c.args.graph.now c.args.cell c.args.arrow c.requires.belongs c.stake-stake.ensures.known (c.requires.target.0, c.requires.target.1) c.requires.arrow _ _ c.word_index-index.ensures (search rules),
+      in_words c.args.seat.now c.args.graph.now c.args.cell c.args.arrow c.requires.belongs c.reveal.ensures.known (c.requires.target.0, c.requires.target.1) c.requires.arrow _ _ c.word_index-index.ensures (search rules),
       rw (c.requires.asked.0, c.requires.asked.1, c.requires.asked.2, c.target_word-word.ensures)
-          (draws _ _ _ _ c.seat.invariant.5.live c.word_index-index.result c.args.cell c.args.arrow index (leads.0, leads.1) arrow c.args.to leads),
+          (draws _ _ _ _ c.seat.invariant.5.sound.live c.word_index-index.result c.args.cell c.args.arrow index (leads.0, leads.1) arrow c.args.to leads),
     )

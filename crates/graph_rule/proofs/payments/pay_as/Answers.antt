@@ -8,4 +8,4 @@ pub fetch_sub-found-requires : goal.fetch_sub-found-requires
 fetch_sub-found-requires g c =
     let has = subst (λ (q : SeatValue). Contains q.view.dues.unpaid c.args._cell) (sym c.seat.view_is) c.requires.unpaid in
     let done = subst (λ (q : SeatValue). IsWhole q.view.world (state_of q.view.front) c.args._cell) (sym c.seat.view_is) c.requires.finished in
-    (search rules, search rules, rw c.requires.asked (paying _ _ _ _ c.seat.invariant.5.live c.args._cell has done))
+    (search rules, search rules, rw c.requires.asked (paying _ _ _ _ c.seat.invariant.5.sound.live c.args._cell has done))

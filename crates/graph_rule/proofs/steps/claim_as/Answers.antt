@@ -19,5 +19,5 @@ compare_exchange-requires g c =
       search rules,
       search rules,
       rw (c.requires.asked.0, c.requires.asked.1, c.requires.asked.2)
-          (claims _ _ _ _ c.seat.invariant.5.live (1 + c.args.cell) c.args.cell refl below c.args.code path word c.args._origin cause pledge),
+          (claims _ _ _ _ c.seat.invariant.5.sound.live (1 + c.args.cell) c.args.cell refl below c.args.code path word c.args._origin cause pledge),
     )

@@ -11,5 +11,5 @@ load-word-requires g c =
     let below : c.args.cell < c.seat.inside.token.me.0.world.cells = omega arith in (
       search rules,
       search rules,
-      rw (c.requires.asked.0, c.requires.asked.1) (confirms _ _ _ _ c.seat.invariant.5.live (1 + c.args.cell) c.args.cell refl below c.args.code),
+      rw (c.requires.asked.0, c.requires.asked.1) (confirms _ _ _ _ c.seat.invariant.5.sound.live (1 + c.args.cell) c.args.cell refl below c.args.code),
     )

@@ -16,5 +16,5 @@ load-requires g c =
     let word = subst (λ (q : SeatValue). c.args.code < size q.view.world.space) (sym c.seat.view_is) c.requires.word in (
       search rules,
       search rules,
-      rw (c.requires.asked.0, c.requires.asked.1) (seeks _ _ _ _ c.seat.invariant.5.live (1 + c.args.cell) c.args.cell refl below c.args.code path word),
+      rw (c.requires.asked.0, c.requires.asked.1) (seeks _ _ _ _ c.seat.invariant.5.sound.live (1 + c.args.cell) c.args.cell refl below c.args.code path word),
     )

@@ -4,7 +4,7 @@ use Rattle.tensor_words.specs.Worlds.{WorldType}
 use Rattle.graph_history.specs.History.{state_of, IsOrigin}
 use Rattle.graph_rule.specs.Layout.{IsSearched}
 use Rattle.graph_rule.specs.Values.{SeatValue}
-use Rattle.graph_rule.proofs.CellSteps.{rooms}
+use Rattle.graph_rule.proofs.CellSteps.{seeks_empty}
 use Rattle.graph_rule.proofs.steps.seek_room_as.Goals as goal
 
 pub load-requires : goal.load-requires
@@ -17,5 +17,5 @@ load-requires g c =
     let cause = subst (λ (q : SeatValue). IsOrigin q.view.world (state_of q.view.front) c.args.code c.args._origin) (sym c.seat.view_is) c.requires.origin in (
       search rules,
       search rules,
-      rw (c.requires.asked.0, c.requires.asked.1) (rooms _ _ _ _ c.seat.invariant.5.live (1 + c.args.cell) c.args.cell refl below c.args.code path word c.args._origin cause),
+      rw (c.requires.asked.0, c.requires.asked.1) (seeks_empty _ _ _ _ c.seat.invariant.5.sound.live (1 + c.args.cell) c.args.cell refl below c.args.code path word c.args._origin cause),
     )

@@ -26,8 +26,8 @@ hear-requires-clause-waiting g c =
     let each = IfOk-at_ok _ c.in_ok-back.was c.run_both-growth.ensures.each in
     all_back c.in_ok-graph.graph c.args.scripts.now c.in_ok-seat.field-0.seat c.seat_all.new.seat c.in_ok-sessions.sessions.items c.in_ok-back.field-0.items c.in_ok-seat.ensures.begins seated many each
 
-pub finish-requires-clause-left : goal.finish-requires-clause-left
-finish-requires-clause-left g c κs within =
+pub end_run-requires-clause-left : goal.end_run-requires-clause-left
+end_run-requires-clause-left g c κs within =
     let seated = (subst (λ (n : ℕ). IsSeated c.in_ok-graph.graph c.in_ok-seat.field-0.seat c.seat_all.new.seat n c.in_ok-sessions.sessions.items) c.len.ensures c.in_ok-sessions.ensures) in
     let growth = IfOk-at_ok (IsGrowthOver c.in_ok-graph.graph c.seat_all.new.seat c.in_ok-seat.field-0.cells.items c.args.growers) c.in_ok-seat-2.was c.run_both-growth.ensures.growth in
     is_left c.in_ok-graph.graph c.args.starts.now c.args.scripts.now c.in_ok-seat.field-0.seat c.seat_all.new.seat c.in_ok-seat.field-0.cells.items c.in_ok-sessions.sessions.items c.args.growers c.requires.few
@@ -39,11 +39,11 @@ returns-clause-history g c =
     let seated = (subst (λ (n : ℕ). IsSeated c.in_ok-graph.graph c.in_ok-seat.field-0.seat c.seat_all.new.seat n c.in_ok-sessions.sessions.items) c.len.ensures c.in_ok-sessions.ensures) in
     let growth = IfOk-at_ok (IsGrowthOver c.in_ok-graph.graph c.seat_all.new.seat c.in_ok-seat.field-0.cells.items c.args.growers) c.in_ok-seat-2.was c.run_both-growth.ensures.growth in
     subst (λ (h : List Event). IsHistory c.args.world c.args.starts.now c.args.scripts.now h c.in_ok-told.field-0.told.items) (sym c.front.ensures.front)
-    (subst (λ (w : WorldType). IsHistory w c.args.starts.now c.args.scripts.now c.finish.new.seat.view.front c.in_ok-told.field-0.told.items) c.in_ok-graph.ensures.world
+    (subst (λ (w : WorldType). IsHistory w c.args.starts.now c.args.scripts.now c.end_run.new.seat.view.front c.in_ok-told.field-0.told.items) c.in_ok-graph.ensures.world
     (history c.in_ok-graph.graph c.args.starts.now c.args.scripts.now c.in_ok-seat.field-0.seat c.seat_all.new.seat c.in_ok-seat.field-0.cells.items c.in_ok-sessions.sessions.items c.args.growers c.requires.few
     c.requires.growers.0 c.requires.growers.1 c.in_ok-seat.ensures seated c.in_ok-seat-2.field-0.seat c.hear.new.seat c.in_ok-seat-2.field-0.grown c.in_ok-told.field-0.told.items c.in_ok-told.field-0.cells.items
     growth.grown c.in_ok-told.ensures
-    c.finish.new.seat c.in_ok-finished.finished c.in_ok-finished.ensures))
+    c.end_run.new.seat c.in_ok-finished.finished c.in_ok-finished.ensures))
 
 pub returns-clause-printable : goal.returns-clause-printable
 returns-clause-printable g c =
@@ -53,4 +53,4 @@ returns-clause-printable g c =
     (printable_last c.in_ok-graph.graph c.args.starts.now c.args.scripts.now c.in_ok-seat.field-0.seat c.seat_all.new.seat c.in_ok-seat.field-0.cells.items c.in_ok-sessions.sessions.items c.args.growers c.requires.few
     c.requires.growers.0 c.requires.growers.1 c.in_ok-seat.ensures seated c.in_ok-seat-2.field-0.seat c.hear.new.seat c.in_ok-seat-2.field-0.grown c.in_ok-told.field-0.told.items c.in_ok-told.field-0.cells.items
     growth.grown c.in_ok-told.ensures
-    c.finish.new.seat c.in_ok-finished.finished c.in_ok-finished.ensures)
+    c.end_run.new.seat c.in_ok-finished.finished c.in_ok-finished.ensures)

@@ -1,5 +1,5 @@
 use Rattle.std.proofs.Common.{sym, subst, List}
-use Rattle.crystal_growers.specs.SharedDesks.{DeskValue, standing_of}
+use Rattle.shared_desk.specs.SharedDesks.{DeskValue, standing_of}
 use Rattle.session_desk.specs.declared.reply.Reply.{Reply}
 use Rattle.session_desk.specs.Sessions.{RanScript}
 use Rattle.graph_runs.specs.Serving.{IsServed}

@@ -1,7 +1,7 @@
 -- First one bench takes over, then the other.
 use Rattle.std.proofs.Common.{sym, ap, subst, ◌∙◌, ℕ, List, Contains}
 use Rattle.parcel_deques.specs.Benches.{BenchValue}
-use Rattle.parcel_deques.proofs.MeetSteps.{have_met}
+use Rattle.parcel_deques.proofs.SwapSteps.{have_swapped}
 use Rattle.parcel_deques.proofs.gathering.pair.Goals as goal
 
 pub take_over-requires-2-clause-call : goal.take_over-requires-2-clause-call
@@ -22,7 +22,7 @@ take_over-requires-2-clause-away g c there =
 
 pub returns : goal.returns
 returns g c =
-    have_met c.args.one.now c.args.two.now c.take_over.new.self c.take_over.new.other c.take_over-2.new.other c.take_over-2.new.self
+    have_swapped c.args.one.now c.args.two.now c.take_over.new.self c.take_over.new.other c.take_over-2.new.other c.take_over-2.new.self
     (record { own = c.take_over.ensures.one; taken = c.take_over.ensures.taken; lent = c.take_over.ensures.other; away = c.take_over.ensures.away })
     (record { own = c.take_over-2.ensures.one; taken = c.take_over-2.ensures.taken; lent = c.take_over-2.ensures.other; away = c.take_over-2.ensures.away })
     c.requires.apart

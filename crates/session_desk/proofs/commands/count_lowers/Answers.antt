@@ -7,5 +7,5 @@ use Rattle.session_desk.proofs.commands.count_lowers.Goals as goal
 
 pub returns : goal.returns
 returns g c =
-    value_told (g.D.Desk.standing c.args.desk.now) c.space-space.result.now (Phi c.args.index c.args.code) (λ v. Number (phi_at v c.args.index c.args.code)) c.phi.result (λ v rest. refl)
-    c.space-space.ensures.legal c.space-space.ensures.space c.phi.ensures.reply c.phi.ensures.printable
+    value_told (g.D.Desk.standing c.args.desk.now) c.space-space.result.now (Phi c.args.index c.args.code) (λ v. Number (phi_at v c.args.index c.args.code)) c.phi_reply.result (λ v rest. refl)
+    c.space-space.ensures.legal c.space-space.ensures.space c.phi_reply.ensures.reply c.phi_reply.ensures.printable

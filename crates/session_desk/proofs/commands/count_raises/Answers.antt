@@ -7,5 +7,5 @@ use Rattle.session_desk.proofs.commands.count_raises.Goals as goal
 
 pub returns : goal.returns
 returns g c =
-    value_told (g.D.Desk.standing c.args.desk.now) c.space-space.result.now (Eps c.args.index c.args.code) (λ v. Number (eps_at v c.args.index c.args.code)) c.eps.result (λ v rest. refl)
-    c.space-space.ensures.legal c.space-space.ensures.space c.eps.ensures.reply c.eps.ensures.printable
+    value_told (g.D.Desk.standing c.args.desk.now) c.space-space.result.now (Eps c.args.index c.args.code) (λ v. Number (eps_at v c.args.index c.args.code)) c.eps_reply.result (λ v rest. refl)
+    c.space-space.ensures.legal c.space-space.ensures.space c.eps_reply.ensures.reply c.eps_reply.ensures.printable

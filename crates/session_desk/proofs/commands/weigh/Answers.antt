@@ -7,5 +7,5 @@ use Rattle.session_desk.proofs.commands.weigh.Goals as goal
 
 pub returns : goal.returns
 returns g c =
-    value_told (g.D.Desk.standing c.args.desk.now) c.space-space.result.now (Wt c.args.code) (λ v. Weight (weight_at v c.args.code)) c.weight.result (λ v rest. refl)
-    c.space-space.ensures.legal c.space-space.ensures.space c.weight.ensures.reply c.weight.ensures.printable
+    value_told (g.D.Desk.standing c.args.desk.now) c.space-space.result.now (Wt c.args.code) (λ v. Weight (weight_at v c.args.code)) c.weight_reply.result (λ v rest. refl)
+    c.space-space.ensures.legal c.space-space.ensures.space c.weight_reply.ensures.reply c.weight_reply.ensures.printable

@@ -16,7 +16,7 @@ answer-reply-requires g c =
     let kept = c.commands.invariant in
     let few : length (take c.commands.place c.args.script.now) ≤ c.commands.place = omega (arith, length-take-le c.commands.place c.args.script.now (omega (arith, kept.last))) in
     record {
-      asked = asked_next (g.D.Desk.standing c.args.desk.now).world (g.D.Desk.standing c.commands.desk).world c.args.script.now c.commands.place c.at.result.now kept.going.goes.world c.requires.asked c.at.ensures;
+      asked = asked_next (g.D.Desk.standing c.args.desk.now).world (g.D.Desk.standing c.commands.desk).world c.args.script.now c.commands.place c.at.result.now kept.going.goes.world c.requires.asked c.at.ensures.item;
       room = omega (arith, kept.going.goes.most, c.requires.room, kept.last);
     }
 
@@ -25,7 +25,7 @@ commands-preserved g c =
     let kept = c.commands.invariant in
     record {
       going = going_next (g.D.Desk.standing c.args.desk.now) (g.D.Desk.standing c.commands.desk) (g.D.Desk.standing c.answer-reply.new.desk) c.args.script.now c.commands.place c.at.result.now
-          c.args.replies.now.items c.commands.replies.items c.push_reserved.new.self.items c.answer-reply.result c.at.ensures c.push_reserved.ensures.items kept.going c.answer-reply.ensures;
+          c.args.replies.now.items c.commands.replies.items c.push_reserved.new.self.items c.answer-reply.result c.at.ensures.item c.push_reserved.ensures.items kept.going c.answer-reply.ensures;
       count = omega (arith, c.push_reserved.ensures.len, kept.count);
       capacity = let now = c.push_reserved.ensures.capacity in let before = kept.capacity in cc;
       last = kept.last;

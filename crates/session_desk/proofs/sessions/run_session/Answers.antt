@@ -11,4 +11,5 @@ returns-clause-begins c =
 
 pub returns-clause-ran : goal.returns-clause-ran
 returns-clause-ran c =
-    ran_alone c.args.desk.now c.call_as.new.self c.run_script.new.desk c.args.caller c.args.script.now _ _ c.call_as.ensures c.requires.fresh c.in_ok-list.ensures.items c.run_script.ensures.ran
+    rw c.of.ensures
+    (ran_alone c.args.desk.now c.call_as.new.self c.run_script.new.desk c.args.caller c.args.script.now _ _ c.call_as.ensures c.requires.fresh c.in_ok-list.ensures.items c.run_script.ensures.ran)

@@ -1,7 +1,8 @@
 use Rattle.std.proofs.Common.{◌≡◌, ◌∙◌, ap, slice_index, arith}
 use Rattle.vector_crystals.specs.Letters.{letter_count}
 use Rattle.tableau_reading.proofs.Boxes.{in_column}
-use Rattle.tableau_census.proofs.ShapeWords.{length_of_word, digit_of_word}
+use Rattle.tableau_reading.proofs.FilledRows.{digit_of_word}
+use Rattle.tableau_census.proofs.ShapeWords.{length_of_word}
 use Rattle.tableau_census.proofs.Completing.{beneath, bound_from_beneath, bound_from_count}
 use Rattle.tableau_census.proofs.counting.bound.Goals as goal
 

@@ -40,20 +40,20 @@ returns-then-word-code-clause-told c =
     let looked = tried_looked c.args.seat.now.view c.claim_first-word.new.seat.view c.args.cell c.claim_first-word.result c.args.code c.claim_first-word.ensures.view in
     tries_then c.args.seat.now.view c.claim_first-word.new.seat.view looked c.try_half.new.seat.view c.args.cell c.args.code c.args.origin c.args.last c.try_half.result c.try_half.ensures.told
 
-pub room_first-word-requires-clause-searched : goal.room_first-word-requires-clause-searched
-room_first-word-requires-clause-searched c =
+pub seek_room_first-word-requires-clause-searched : goal.seek_room_first-word-requires-clause-searched
+seek_room_first-word-requires-clause-searched c =
     let looked = tried_looked c.args.seat.now.view c.claim_first-word.new.seat.view c.args.cell c.claim_first-word.result c.args.code c.claim_first-word.ensures.view in
     (probing_looked c.args.graph.now c.args.seat.now c.claim_first-word.new.seat c.args.code c.args.cell c.args.last c.requires.probing c.claim_first-word.ensures.table looked).searched
 
-pub room_first-word-requires-clause-origin : goal.room_first-word-requires-clause-origin
-room_first-word-requires-clause-origin c =
+pub seek_room_first-word-requires-clause-origin : goal.seek_room_first-word-requires-clause-origin
+seek_room_first-word-requires-clause-origin c =
     let looked = tried_looked c.args.seat.now.view c.claim_first-word.new.seat.view c.args.cell c.claim_first-word.result c.args.code c.claim_first-word.ensures.view in
     origin_looked c.args.seat.now.view c.claim_first-word.new.seat.view looked c.args.code c.args.origin c.requires.origin
 
 pub returns-then-last-clause-told : goal.returns-then-last-clause-told
 returns-then-last-clause-told c =
     lost_last c.args.seat.now.view c.claim_first-word.new.seat.view c.args.cell c.claim_first-word.result c.args.code c.claim_first-word.ensures.view
-    c.room_first-word.new.seat.view c.room_first-word.result c.args.last c.requires.probing.ends c.room_first-word.ensures.view c.room_first-word.ensures.word c.if-word-eq0.false c.if-word-code.false c.if-last.true c.requires.idle
+    c.seek_room_first-word.new.seat.view c.seek_room_first-word.result c.args.last c.requires.probing.ends c.seek_room_first-word.ensures.view c.seek_room_first-word.ensures.word c.if-word-eq0.false c.if-word-code.false c.if-last.true c.requires.idle
 
 pub returns-clause-told : goal.returns-clause-told
 returns-clause-told c =

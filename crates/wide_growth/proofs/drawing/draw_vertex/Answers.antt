@@ -12,7 +12,7 @@ use Rattle.wide_growth.proofs.drawing.draw_vertex.Goals as goal
 
 pub indices-init : goal.indices-init
 indices-init c = record {
-  goes = goes_none c.args.seat.now c.args.added.now.items c.stake-stake.ensures.known c.requires.ready.idle;
+  goes = goes_none c.args.seat.now c.args.added.now.items c.reveal.ensures.known c.requires.ready.idle;
   drawn = drawn_none c.args.seat.now.view.front c.args.vertex.cell;
   counted = refl;
   rank = c.rank-rank.ensures.rank ∙ ap (λ (t : CartanType). t.rank) c.cartan.ensures.cartan ∙ ap (λ (s : WideSpaceType). s.high.cartan.rank) c.requires.steps;

@@ -10,7 +10,7 @@ pub grow-requires-clause-growing : goal.grow-requires-clause-growing
 grow-requires-clause-growing g c = λ κs within.
     let ready : IsReady c.args.graph.now c.args.seat = record {
       belongs = record { table = c.requires.table; world = ap (λ (v : WideView). v.world) c.requires.view };
-      idle = ap (λ (v : WideView). v.own.pending) c.requires.view;
+      idle = ap (λ (v : WideView). v.dues.pending) c.requires.view;
     } in
     growing_none c.args.graph.now c.args.seat c.enter_roots.new.seat c.enter_roots.new.added.items ready c.requires.view
     (subst (λ (l : List OpenVertex). GoesOn c.args.seat c.enter_roots.new.seat l c.enter_roots.new.added.items) c.new-waiting.ensures.items c.in-Ok.ensures.goes) c.in-Ok.ensures.there

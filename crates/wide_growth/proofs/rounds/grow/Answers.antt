@@ -15,7 +15,7 @@ returns-then-capacity-vertices-clause-stop g c =
     let more : c.capacity-capacity.result - c.rounds.vertices < length c.rounds.waiting.items = search rules in
     let same = i.capacity in
     let few = i.growing.few in
-    too_many c.args.graph.now c.rounds.seat c.rounds.waiting.items c.rounds.vertices c.rounds.arrows i.growing c.stake-stake.ensures.complete (omega arith)
+    too_many c.args.graph.now c.rounds.seat c.rounds.waiting.items c.rounds.vertices c.rounds.arrows i.growing c.reveal.ensures.complete (omega arith)
 
 pub round-requires-clause-can : goal.round-requires-clause-can
 round-requires-clause-can g c = λ κs within.
@@ -70,6 +70,6 @@ pub returns-clause-grown : goal.returns-clause-grown
 returns-clause-grown g c =
     let none : c.rounds.waiting.items ≡ [] = nil_from_length c.rounds.waiting.items (search rules) in
     let s = c.settle-closed.ensures in
-    grown c.args.graph.now c.rounds.seat c.rounds.waiting.items c.rounds.vertices c.rounds.arrows c.rounds.invariant.growing none c.stake-stake-2.ensures.complete
+    grown c.args.graph.now c.rounds.seat c.rounds.waiting.items c.rounds.vertices c.rounds.arrows c.rounds.invariant.growing none c.reveal-2.ensures.complete
     (subst (λ (w : WideWorldType). IsClosed (flat w) (state_of c.rounds.seat.view.front)) s.world
     (subst (λ (h : List Event). IsClosed (flat c.settle-closed.result.world) (state_of h)) s.front s.closed))

@@ -8,7 +8,7 @@ use Rattle.wide_rule.proofs.EdgeSteps.{cell_there, in_words, glances}
 use Rattle.wide_rule.proofs.edges.load_edge_as.Goals as goal
 
 pub word_index-index-requires-clause-cell : goal.word_index-index-requires-clause-cell
-word_index-index-requires-clause-cell g c = cell_there c.args.seat.now c.args.graph.now c.args.cell c.requires.belongs c.stake-stake.ensures.known c.requires.there
+word_index-index-requires-clause-cell g c = cell_there c.args.seat.now c.args.graph.now c.args.cell c.requires.belongs c.reveal.ensures.known c.requires.there
 
 pub load-requires : goal.load-requires
 load-requires g c =
@@ -17,7 +17,7 @@ load-requires g c =
     let there = subst (λ (q : WideSeatValue). HasSome (state_of q.view.front) c.args.cell) (sym c.seat.view_is) c.requires.there in
     let arrow = subst (λ (q : WideSeatValue). IsArrow (flat q.view.world).space c.args.arrow) (sym c.seat.view_is) c.requires.arrow in (
       search rules,
-      in_words c.args.seat.now c.args.graph.now c.args.cell c.args.arrow c.requires.belongs c.stake-stake.ensures.known c.requires.there c.requires.arrow _ _ c.word_index-index.ensures (search rules),
+      in_words c.args.seat.now c.args.graph.now c.args.cell c.args.arrow c.requires.belongs c.reveal.ensures.known c.requires.there c.requires.arrow _ _ c.word_index-index.ensures (search rules),
       rw (c.requires.asked.0, c.requires.asked.1)
           (glances c.graph.inside.board.shared.key _ _ _ c.seat.invariant.5.sound.live c.word_index-index.result c.args.cell c.args.arrow index there arrow),
     )

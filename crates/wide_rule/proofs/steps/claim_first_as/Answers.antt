@@ -10,7 +10,7 @@ compare_exchange-requires g c =
     let seats = ap (λ (q : WideSeatValue). q.view.world.capacity) c.seat.view_is in
     let graphs = ap (λ (u : WideWorldType). u.capacity) c.requires.belongs.world in
     let below : c.args.cell < cell_count c.seat.inside.token.me.0.world = omega arith in
-    let idle = subst (λ (q : WideSeatValue). q.view.own.pending ≡ None) (sym c.seat.view_is) c.requires.idle in
+    let idle = subst (λ (q : WideSeatValue). q.view.dues.pending ≡ None) (sym c.seat.view_is) c.requires.idle in
     let count = c.graph.invariant.1 in
     let world = ap (λ (q : WideGraphValue). q.world.capacity) c.graph.view_is in (
       search rules,

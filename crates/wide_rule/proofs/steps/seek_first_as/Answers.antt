@@ -13,7 +13,7 @@ load-requires g c =
     let graphs = ap (λ (u : WideWorldType). u.capacity) c.requires.belongs.world in
     let below : c.args.cell < cell_count c.seat.inside.token.me.0.world = omega arith in
     let wide = subst (λ (q : WideSeatValue). IsWide q.view.world.space c.args.code) (sym c.seat.view_is) c.requires.code in
-    let path = subst (λ (q : WideSeatValue). IsSearched q.view.world (state_of q.view.front) q.view.own.seen c.args.code c.args.cell) (sym c.seat.view_is) c.requires.searched in
+    let path = subst (λ (q : WideSeatValue). IsSearched q.view.world (state_of q.view.front) q.view.dues.seen c.args.code c.args.cell) (sym c.seat.view_is) c.requires.searched in
     let count = c.graph.invariant.1 in
     let world = ap (λ (q : WideGraphValue). q.world.capacity) c.graph.view_is in (
       search rules,

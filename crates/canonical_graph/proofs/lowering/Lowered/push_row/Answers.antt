@@ -1,8 +1,7 @@
 use Rattle.std.proofs.Common.{◌∙◌, ◌+◌, true, is_some, arith}
 use Rattle.canonical_graph.specs.Graphs.{finished_graph, code_at}
 use Rattle.canonical_graph.specs.Tables.{arrow_to}
-use Rattle.canonical_graph.proofs.Expanding.{op_at}
-use Rattle.canonical_graph.proofs.Rows.{target_is, entry_on, arrows_on, one_at_most}
+use Rattle.canonical_graph.proofs.Rows.{op_at, target_is, entry_on, arrows_on, one_at_most}
 use Rattle.canonical_graph.proofs.lowering.Lowered.push_row.Goals as goal
 
 pub indices-preserved : goal.indices-preserved

@@ -10,7 +10,7 @@ unfolding twice_pairing
 returns-then-i-last-clause-value c =
     let w = c.args.weight.now in
     let i = c.args.i in
-    let room : c.args.self.now.rank ≤ length w = omega (arith, rank_within c.args.self.now, c.requires.size) in
+    let enough : c.args.self.now.rank ≤ length w = omega (arith, rank_within c.args.self.now, c.requires.size) in
     let left = small_at w i (omega arith) (omega arith) c.requires.small in
     let right = small_at w (i + 1) (omega arith) (omega arith) c.requires.small in
     let test : nat_lt i c.args.self.now.rank ≡ true = lt-ltb i c.args.self.now.rank (omega arith) in
@@ -20,7 +20,7 @@ pub returns-then-i-last-clause-small : goal.returns-then-i-last-clause-small
 returns-then-i-last-clause-small c =
     let w = c.args.weight.now in
     let i = c.args.i in
-    let room : c.args.self.now.rank ≤ length w = omega (arith, rank_within c.args.self.now, c.requires.size) in
+    let enough : c.args.self.now.rank ≤ length w = omega (arith, rank_within c.args.self.now, c.requires.size) in
     let left = small_at w i (omega arith) (omega arith) c.requires.small in
     let right = small_at w (i + 1) (omega arith) (omega arith) c.requires.small in
     (omega (arith, ints, c.doubled_at.ensures, c.doubled_at-then-i-last.ensures, left, right), omega (arith, ints, c.doubled_at.ensures, c.doubled_at-then-i-last.ensures, left, right))

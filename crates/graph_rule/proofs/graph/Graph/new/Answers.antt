@@ -1,7 +1,7 @@
 use Rattle.std.proofs.Common.{◌≡◌, sym, ap, subst, ◌∙◌, ◌+◌, ◌*◌, rules}
 use Rattle.crystal_cartan.specs.Types.{CartanType}
 use Rattle.tensor_words.specs.Spaces.{SpaceType}
-use Rattle.graph_history.specs.declared.view.View.{View}
+use Rattle.graph_history.specs.Views.{View}
 use Rattle.graph_rule.specs.Layout.{word_count}
 use Rattle.graph_rule.specs.Rule.{IsKnown}
 use Rattle.graph_rule.specs.Parting.{first_view}

@@ -1,11 +1,12 @@
 -- The rule holds of the view of both; the load that follows takes in the whole history, of which both fronts are prefixes.
 use Rattle.std.proofs.Common.{◌≡◌, sym, ap, subst, ◌<◌, [], rules, arith}
 use Rattle.atomic_table.specs.Table.{Me}
-use Rattle.graph_history.specs.declared.view.View.{View}
+use Rattle.graph_history.specs.Views.{View}
 use Rattle.graph_rule.specs.Values.{SeatValue}
 use Rattle.graph_rule.specs.Told.{Advances}
-use Rattle.graph_rule.specs.Parting.{joined}
-use Rattle.graph_rule.proofs.Joining.{join_allowed, meet_allowed, joined_fronts, joined_calls}
+use Rattle.graph_rule.specs.Parting.{both_dues, joined}
+use Rattle.shared_seats.proofs.Joining.{joined_fronts, joined_calls}
+use Rattle.graph_rule.proofs.Joining.{join_allowed, meet_allowed}
 use Rattle.graph_rule.proofs.seat.Seat.join.Goals as goal
 
 pub join_seat-requires : goal.join_seat-requires
@@ -18,13 +19,13 @@ join_seat-requires c =
       search rules,
       search rules,
       search rules,
-      join_allowed c.graph.inside.board.shared.key c.self.inside.token.id v c.other.inside.token.id w c.self.invariant.5.live c.other.invariant.5.live none,
+      join_allowed c.graph.inside.board.shared.key c.self.inside.token.id v c.other.inside.token.id w c.self.invariant.5.sound.live c.other.invariant.5.sound.live none,
     )
 
 pub load-found-requires : goal.load-found-requires
 load-found-requires c =
     let live : 0 < c.join_seat.new.seat.me.0.stake =
-    subst (λ (p : Me Unit View). 0 < p.0.stake) (sym c.join_seat.ensures.2) (let some = c.self.invariant.5.live in omega arith) in
+    subst (λ (p : Me Unit View). 0 < p.0.stake) (sym c.join_seat.ensures.2) (let some = c.self.invariant.5.sound.live in omega arith) in
     (search rules, search rules, meet_allowed c.graph.inside.board.shared.key c.graph.inside.board.shared.table_id.slots c.join_seat.new.seat.id c.join_seat.new.seat.me 0 live)
 
 told : (c : goal.After-self-1) → Advances (joined c.args.self.now.view c.args.other.view) c.load-found.new.seat.me.0 [] (joined c.args.self.now.view c.args.other.view).dues
@@ -37,7 +38,7 @@ told c =
     subst (λ (w : View). Advances (joined c.args.self.now.view w) now [] (joined c.args.self.now.view w).dues) theirs second
 
 pub returns-clause-front : goal.returns-clause-front
-returns-clause-front c = joined_fronts c.args.self.now.view c.args.other.view c.load-found.new.seat.me.0 (joined c.args.self.now.view c.args.other.view).dues (told c)
+returns-clause-front c = let t = told c in joined_fronts both_dues c.args.self.now.view c.args.other.view c.load-found.new.seat.me.0 _ _ t.is t.known.sound
 
 pub returns-clause-calls : goal.returns-clause-calls
-returns-clause-calls c = joined_calls c.args.self.now.view c.args.other.view c.load-found.new.seat.me.0 (joined c.args.self.now.view c.args.other.view).dues (told c)
+returns-clause-calls c = let t = told c in joined_calls both_dues c.args.self.now.view c.args.other.view c.load-found.new.seat.me.0 _ _ t.is t.known.sound

@@ -7,5 +7,5 @@ pub load-found-requires : goal.load-found-requires
 load-found-requires c = (
   search rules,
   search rules,
-  meet_allowed c.graph.inside.board.shared.key c.graph.inside.board.shared.table_id.slots c.self.inside.token.id c.self.inside.token.me 0 c.self.invariant.5.live,
+  meet_allowed c.graph.inside.board.shared.key c.graph.inside.board.shared.table_id.slots c.self.inside.token.id c.self.inside.token.me 0 c.self.invariant.5.sound.live,
 )

@@ -1,7 +1,7 @@
 -- The two views are those of the split, and both seats keep what a seat knows.
 use Rattle.std.proofs.Common.{◌≡◌, refl, sym, ap, subst, ◌+◌, ◌-◌, ◌<◌, ◌≤◌, [], rules, arith}
 use Rattle.atomic_table.specs.Table.{Me}
-use Rattle.graph_history.specs.declared.view.View.{View}
+use Rattle.graph_history.specs.Views.{View}
 use Rattle.graph_rule.specs.Rule.{IsKnown, IsComplete}
 use Rattle.graph_rule.specs.Values.{SeatValue}
 use Rattle.graph_rule.specs.Parting.{hand_left, hand_right}

@@ -2,11 +2,11 @@ use Rattle.std.proofs.Common.{◌≡◌, ◌∙◌, ap, sym, subst, ℕ, List, [
 use Rattle.std.proofs.lemmas.List.Elements.{Contains-get_or}
 use Rattle.graph_history.specs.declared.event.Event.{Event}
 use Rattle.graph_history.specs.declared.view.Dues.{Dues}
-use Rattle.graph_history.specs.declared.view.View.{View}
+use Rattle.graph_history.specs.Views.{View}
 use Rattle.graph_history.specs.History.{state_of, IsWhole}
-use Rattle.crystal_growers.specs.declared.growing.Grown.{Grown}
-use Rattle.crystal_growers.specs.declared.growing.Grown.TheVariants.{Closed}
-use Rattle.crystal_growers.specs.Grow.{GrowthEnded}
+use Rattle.crystal_growers.specs.declared.growth.Grown.{Grown}
+use Rattle.crystal_growers.specs.declared.growth.Grown.TheVariants.{Closed}
+use Rattle.crystal_growers.specs.Growth.{GrowthEnded}
 use Rattle.growth_tests.proofs.tests.growers.grow_full.Goals as goal
 
 -- a closed growth that was given all unpaid cells leaves none

@@ -1,10 +1,10 @@
 -- Where a growth from all unpaid cells closes, nothing is unpaid.
 use Rattle.std.proofs.Common.{◌≡◌, ◌∙◌, sym, ap, subst, ℕ, List, [], ◌∷◌, ◌++◌, All}
 use Rattle.std.proofs.lemmas.List.Elements.{All-nil}
-use Rattle.graph_history.specs.declared.view.View.{View}
+use Rattle.graph_history.specs.Views.{View}
 use Rattle.graph_history.specs.History.{state_of, IsWhole}
-use Rattle.crystal_growers.specs.declared.growing.Grown.{Grown}
-use Rattle.crystal_growers.specs.Grow.{IsGrown}
+use Rattle.crystal_growers.specs.declared.growth.Grown.{Grown}
+use Rattle.crystal_growers.specs.Growth.{IsGrown}
 use Rattle.crystal_growers.proofs.Ended.{nothing_unpaid}
 use Rattle.growth_tests.proofs.tests.growths.grow_from.Goals as goal
 

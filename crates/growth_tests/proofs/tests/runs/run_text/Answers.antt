@@ -1,5 +1,5 @@
 use Rattle.session_desk.proofs.JobScripts.{scripts_asked}
-use Rattle.graph_runs.proofs.Jobs.{starts_are_roots}
+use Rattle.job_text.proofs.Starts.{starts_are_roots}
 use Rattle.growth_tests.proofs.tests.runs.run_text.Goals as goal
 
 pub run_beside-requires-clause-rooted : goal.run_beside-requires-clause-rooted

@@ -1,5 +1,5 @@
 use Rattle.std.proofs.Common.{◌≡◌, rules}
-use Rattle.edge_words.proofs.Calls.{at_home}
+use Rattle.table_calls.proofs.Calls.{at_home}
 use Rattle.table_tests.proofs.tests.edges.put.Goals as goal
 
 pub claim-requires-clause-searched : goal.claim-requires-clause-searched

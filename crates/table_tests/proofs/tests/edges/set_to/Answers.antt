@@ -1,6 +1,6 @@
 use Rattle.std.proofs.Common.{◌≡◌, ◌-◌, Some, rules}
 use Rattle.tensor_words.specs.Operators.{op}
-use Rattle.edge_words.proofs.Calls.{leads_to}
+use Rattle.table_calls.proofs.Calls.{leads_to}
 use Rattle.table_tests.proofs.tests.edges.set_to.Goals as goal
 
 pub set-requires-in-Some-Some-clause-target : goal.set-requires-in-Some-Some-clause-target

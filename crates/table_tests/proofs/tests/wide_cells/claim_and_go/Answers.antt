@@ -13,5 +13,5 @@ claim_first-requires-clause-searched c =
     let belongs : Belongs c.split-other.result c.args.graph.now = search rules in
     let count : cells ≡ cell_count c.args.graph.now.world = ap (λ (n : ℕ). n + 32) (c.capacity-cells.ensures.capacity ∙ ap (λ (w : WideWorldType). w.capacity) c.world.ensures.value) in
     let at = c.home-cell.ensures.value ∙ ap (home cells) c.mixed.ensures in
-    let idle : c.split-other.result.view.own.pending ≡ None = ap (λ (v : WideView). v.own.pending) c.split-other.ensures.child in
+    let idle : c.split-other.result.view.dues.pending ≡ None = ap (λ (v : WideView). v.dues.pending) c.split-other.ensures.child in
     (begins c.split-other.result c.args.graph.now c.in_ok-code.code cells c.home-cell.result belongs count at idle).at.searched

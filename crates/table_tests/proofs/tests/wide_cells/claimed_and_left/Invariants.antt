@@ -5,6 +5,6 @@ use Rattle.table_tests.proofs.tests.wide_cells.claimed_and_left.Given as goal
 abbrev pub invariant-loop-place : goal.invariant-loop-place
 invariant-loop-place l = record {
   belongs : Belongs l.seat l.graph;
-  idle : l.seat.view.own.pending ≡ None;
+  idle : l.seat.view.dues.pending ≡ None;
   few : l.claimed ≤ l.place;
 }

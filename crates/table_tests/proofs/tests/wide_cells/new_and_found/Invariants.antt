@@ -5,6 +5,6 @@ use Rattle.table_tests.proofs.tests.wide_cells.new_and_found.Given as goal
 abbrev pub invariant-loop-place : goal.invariant-loop-place
 invariant-loop-place l = record {
   belongs : Belongs l.seat l.graph;
-  idle : l.seat.view.own.pending ≡ None;
+  idle : l.seat.view.dues.pending ≡ None;
   few : l.right ≤ l.place;
 }

@@ -1,8 +1,0 @@
-use Rattle.canonical_graph.proofs.Spacing.{line_is}
-use Rattle.canonical_graph.proofs.finished.Finished.graph_line.Goals as goal
-
-pub returns-clause-text : goal.returns-clause-text
-returns-clause-text c =
-    line_is c.args.self.now c.args.rank c.space-space.result.now c.steps.result.now c.word_at-word.result c.weight.result
-    _ _ _ _ _ _ _ _ c.space-space.ensures.space c.steps.ensures.space c.word_at-word.ensures.word c.weight.ensures.value c.requires.empty
-    c.print_number.ensures.text c.text.ensures c.print_word.ensures.text c.text-2.ensures c.print_weight.ensures.text c.text-3.ensures c.print_arrows.ensures.text

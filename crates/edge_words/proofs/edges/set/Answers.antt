@@ -1,5 +1,0 @@
-use Rattle.edge_words.proofs.Drawn.{drawn_then}
-use Rattle.edge_words.proofs.edges.set.Goals as goal
-
-pub returns-clause-drawn : goal.returns-clause-drawn
-returns-clause-drawn c = drawn_then c.args.seat.now.view c.claim_edge.new.seat.view _ c.args.cell c.args.arrow c.args.to _ c.claim_edge.ensures.view
